@@ -1,0 +1,3 @@
+pub mod Floor
+pub mod Header
+pub mod Room
