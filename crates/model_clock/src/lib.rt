@@ -1,0 +1,6 @@
+//! Clocks that drift, are stepped and are tuned.
+#![tactic(auto)]
+
+mod state;
+
+pub use state::ClockState;

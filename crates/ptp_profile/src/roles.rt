@@ -1,0 +1,36 @@
+use ptp_base::PortId;
+
+/// What drives a clock.
+#[derive(Clone, Copy, Debug, PartialEq, Eq)]
+pub enum Edge {
+    /// A port of the clock, which follows its parent.
+    Port { port: u8, parent: PortId },
+    /// The clock's own follower, which copies another clock.
+    Follow { source: u8 },
+}
+
+/// An order of a generation: who drives the clock from now on. The controller is 0 for nobody, 1 to
+/// 32 for a port, and 128 + s for the clock's own follower that copies clock s.
+#[derive(Clone, Copy, Debug, PartialEq, Eq)]
+pub struct RoleOrder {
+    pub clock: u8,
+    pub gener: u32,
+    pub ctrl: u8,
+}
+
+/// What a follower is told to copy: the generation of the last order of its clock, and the source.
+#[derive(Clone, Copy, Debug, PartialEq, Eq)]
+pub struct Lead {
+    pub gener: u32,
+    pub source: u8,
+}
+
+/// What a follower is told of a generation.
+#[derive(Clone, Copy, Debug, PartialEq, Eq)]
+pub struct Notice {
+    pub gener: u32,
+    /// The number of the port in SLAVE, or 0.
+    pub slave: u16,
+    /// There exactly where the follower's clock copies another.
+    pub lead: Option<Lead>,
+}

@@ -1,0 +1,60 @@
+use model_clock::ClockState;
+use ptp_base::Items;
+
+/// The stamp under which an actor holds a clock: a generation and a controller.
+#[derive(Clone, Copy, Debug, PartialEq, Eq)]
+pub struct Held {
+    pub clock: u8,
+    pub gener: u32,
+    pub ctrl: u8,
+}
+
+/// A clock's state after so many entries of its log, with the stamp then in force.
+#[derive(Clone, Copy, Debug, PartialEq, Eq)]
+pub struct Reading {
+    pub number: u32,
+    pub gener: u32,
+    pub ctrl: u8,
+    pub state: ClockState,
+}
+
+/// The number, from 1, that an entry has in its clock's log.
+#[derive(Clone, Copy, Debug, PartialEq, Eq)]
+pub struct Receipt {
+    pub number: u32,
+}
+
+/// Why a clock was not changed.
+#[derive(Clone, Copy, Debug, PartialEq, Eq)]
+pub enum Refused {
+    /// A newer generation is in force after `at` entries.
+    Superseded { newer: u32, at: u32 },
+    /// The log has `at` entries, which is all that it may have.
+    Spent { at: u32 },
+}
+
+/// An entry of a clock's log. Ticks and steps are in ns, frequencies in ppb times 65,536.
+#[derive(Clone, Copy, Debug, PartialEq, Eq)]
+pub enum LogEntry {
+    /// The controller from now on.
+    Order {
+        gener: u32,
+        ctrl: u8,
+    },
+    /// A change of the clock under a stamp.
+    Change {
+        gener: u32,
+        ctrl: u8,
+        tick: u64,
+        step: i64,
+        freq: i64,
+    },
+}
+
+/// A clock's opening, and what was ordered and changed since, the oldest first.
+#[derive(Debug, Drop)]
+pub struct Log {
+    pub clock: u8,
+    pub opening: ClockState,
+    pub entries: Items<LogEntry>,
+}
