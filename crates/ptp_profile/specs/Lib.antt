@@ -6,3 +6,4 @@ pub mod Wire
 pub mod Spelled
 pub mod Servo
 pub mod Sync
+pub mod BestLaws

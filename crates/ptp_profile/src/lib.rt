@@ -2,6 +2,7 @@
 //! data types that these speak of.
 #![tactic(auto)]
 
+mod best_master;
 mod foreign;
 mod message;
 mod port;
@@ -9,6 +10,7 @@ mod roles;
 mod seats;
 mod timing;
 
+pub use best_master::{best_wins, one_follows, qualified_set};
 pub use foreign::{Heard, KeptAnnounce, Order, PortBest};
 pub use message::{Body, Message, Reject, Said};
 pub use port::{Fate, PortEvent, Timer};

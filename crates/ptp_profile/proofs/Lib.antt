@@ -1,0 +1,4 @@
+pub mod BestLemmas
+pub mod MemberLemmas
+pub mod SenderLemmas
+pub mod CodeLemmas
