@@ -7,3 +7,4 @@ pub mod Spelled
 pub mod Servo
 pub mod Sync
 pub mod BestLaws
+pub mod BestExamples
