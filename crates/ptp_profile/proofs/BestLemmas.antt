@@ -1,12 +1,12 @@
 -- In a coherent set the comparison is one order by grandmaster, steps, sender and receiver.
-use Rattle.std.proofs.Common.{◌≡◌, ◌≢◌, ℕ, ◌+◌, ◌<◌, ◌≤◌, Bool, true, false, cond, eqb, ltb, List, [], ◌∷◌, length, get_or, Option, Some, None, refl, sym, ap, subst, ◌∙◌, arith, inl, inr, ⊎_elim, zero, suc}
+use Rattle.std.proofs.Common.{◌≡◌, ◌≢◌, ℕ, ◌+◌, ◌<◌, ◌≤◌, Bool, true, false, cond, eqb, ltb, List, [], ◌∷◌, Some, None, refl, sym, ap, subst, ◌∙◌, arith, ⊎_elim}
 use Rattle.std.specs.Cmp.{IsTotalOrder}
 use Rattle.std.specs.Ordering.{nat_cmp, ordering_then, is_lt, is_gt, ordering_reverse, MatchOrdering}
 use Rattle.std.specs.declared.cmp.Ordering.{Ordering}
 use Rattle.std.specs.declared.cmp.Ordering.TheVariants.{Less, Equal, Greater}
 use Rattle.std.specs.List.{fold, AllByRecursion, Contains, All}
 use Rattle.std.proofs.lemmas.Cmp.{on_total, then_total, nat_cmp_total, tied_itself, upto, ranked}
-use Rattle.std.proofs.lemmas.Bool.{cases_Bool, cases_order, both_ways, lt-ltb, le-ltb, eq-eqb, ne_eqb, eqb-true, eqb-false, cond-true, cond-false}
+use Rattle.std.proofs.lemmas.Bool.{cases_Bool, cases_order, lt-ltb, le-ltb, ne_eqb, eqb-true, eqb-false, cond-true, cond-false}
 use Rattle.std.proofs.lemmas.Option.{same_Some}
 use Rattle.std.proofs.lemmas.List.Elements.{All-contains_itself, recursion_from_All, All-from_recursion, All-contains}
 use Rattle.ptp_base.specs.declared.announcement.Announcement.{Announcement}
@@ -16,7 +16,7 @@ use Rattle.ptp_base.specs.declared.identity.PortId.{PortId}
 use Rattle.ptp_profile.specs.Identity.{port_cmp}
 use Rattle.ptp_profile.specs.declared.foreign.Order.{Order}
 use Rattle.ptp_profile.specs.declared.foreign.Order.TheVariants.{ABetter, BBetter}
-use Rattle.ptp_profile.specs.Compare.{quality_cmp, master_cmp, lower_is_better, by_master, a_is_nearer, b_is_nearer, lower_is_nearer, ends_cmp, by_path, order_of, is_a_winner, wins}
+use Rattle.ptp_profile.specs.Compare.{quality_cmp, master_cmp, lower_is_better, a_is_nearer, b_is_nearer, lower_is_nearer, ends_cmp, is_a_winner, wins}
 use Rattle.ptp_profile.specs.Foreign.{better, winner}
 use Rattle.ptp_profile.specs.BestLaws.{IsCoherent, BestWins, BestIsMember, NoBestOfNone}
 
@@ -53,7 +53,10 @@ nat_cmp_less : (m n : ℕ) → m < n → nat_cmp m n ≡ Less
 nat_cmp_less m n l = ap (λ b. cond b Less (cond (eqb m n) Equal Greater)) (lt-ltb m n l)
 
 nat_cmp_greater : (m n : ℕ) → n < m → nat_cmp m n ≡ Greater
-nat_cmp_greater m n l = let le : n ≤ m = omega arith in let ne : m ≡ n → ⊥ = λ e. omega arith in ap (λ b. cond b Less (cond (eqb m n) Equal Greater)) (le-ltb m n le) ∙ ap (λ b. cond b Equal Greater) (ne_eqb m n ne)
+nat_cmp_greater m n l =
+    let le : n ≤ m = omega arith in
+    let ne : m ≡ n → ⊥ = λ e. omega arith in
+    ap (λ b. cond b Less (cond (eqb m n) Equal Greater)) (le-ltb m n le) ∙ ap (λ b. cond b Equal Greater) (ne_eqb m n ne)
 
 pub nat_cmp_same : (m n : ℕ) → nat_cmp m n ≡ Equal → m ≡ n
 nat_cmp_same m n e = subst (λ o. MatchOrdering o (m < n) (m ≡ n) (n < m)) e (ranked m n (nat_cmp m n) refl)
@@ -66,12 +69,17 @@ both_equal Less y e = cc
 both_equal Equal y e = (refl, e)
 both_equal Greater y e = cc
 
+pub port_from_parts : (p q : PortId) → p.clock.id ≡ q.clock.id → p.port ≡ q.port → p ≡ q
+port_from_parts p q clocks ports =
+    ap (λ (id : ℕ). let made : PortId = record { clock = record { id = id }; port = p.port } in made) clocks
+    ∙ ap (λ (n : ℕ). let made : PortId = record { clock = q.clock; port = n } in made) ports
+
 pub same_port : (p q : PortId) → port_cmp p q ≡ Equal → p ≡ q
 same_port p q e =
     let parts = both_equal (nat_cmp p.clock.id q.clock.id) (nat_cmp p.port q.port) e in
     let clocks = nat_cmp_same p.clock.id q.clock.id parts.0 in
     let ports = nat_cmp_same p.port q.port parts.1 in
-    ap (λ (id : ℕ). let made : PortId = record { clock = record { id = id }; port = p.port } in made) clocks ∙ ap (λ (n : ℕ). let made : PortId = record { clock = q.clock; port = n } in made) ports
+    port_from_parts p q clocks ports
 
 -- ports of different clocks differ
 ports_differ : (p q : PortId) → p.clock ≢ q.clock → port_cmp p q ≢ Equal
@@ -97,7 +105,11 @@ nearer_is_lt Greater = refl
 
 -- the cases of a path, over plain numbers
 abbrev steps_order : ℕ → ℕ → Ordering → Ordering → Ordering → Order
-steps_order m n of_b of_a ends = cond (ltb (m + 1) n) ABetter (cond (ltb (n + 1) m) BBetter (cond (ltb m n) (a_is_nearer of_b) (cond (ltb n m) (b_is_nearer of_a) (lower_is_nearer ends))))
+steps_order m n of_b of_a ends =
+    cond (ltb (m + 1) n) ABetter
+    (cond (ltb (n + 1) m) BBetter
+    (cond (ltb m n) (a_is_nearer of_b)
+    (cond (ltb n m) (b_is_nearer of_a) (lower_is_nearer ends))))
 
 steps_wins : (m n : ℕ) (of_b of_a ends : Ordering) → of_b ≢ Equal → is_a_winner (steps_order m n of_b of_a ends) ≡ is_lt (ordering_then (nat_cmp m n) ends)
 steps_wins m n of_b of_a ends ne =
@@ -107,7 +119,10 @@ steps_wins m n of_b of_a ends ne =
     let down : m ≤ n + 1 = omega arith in
     let ge : n ≤ m = omega arith in
     let le : m ≤ n = omega arith in
-    ap is_a_winner (cond-false (ltb (m + 1) n) _ _ (le-ltb (m + 1) n up) ∙ cond-false (ltb (n + 1) m) _ _ (le-ltb (n + 1) m down) ∙ cond-false (ltb m n) _ _ (le-ltb m n ge) ∙ cond-false (ltb n m) _ _ (le-ltb n m le))
+    ap is_a_winner (cond-false (ltb (m + 1) n) _ _ (le-ltb (m + 1) n up)
+    ∙ cond-false (ltb (n + 1) m) _ _ (le-ltb (n + 1) m down)
+    ∙ cond-false (ltb m n) _ _ (le-ltb m n ge)
+    ∙ cond-false (ltb n m) _ _ (le-ltb n m le))
     ∙ nearer_is_lt ends
     ∙ ap (λ o. is_lt (ordering_then o ends)) (sym (ap (nat_cmp m) (sym same) ∙ nat_cmp_itself m)))
     (⊎_elim
@@ -135,7 +150,8 @@ same_clock : (c d : ClockId) → c.id ≡ d.id → c ≡ d
 same_clock c d e = ap (λ (id : ℕ). let made : ClockId = record { id = id } in made) e
 
 -- where equal grandmasters have equal quality and b's sender is not of its receiver's clock, to win is to rank before
-pub wins_is_before : (a b : Announcement) → (a.grandmaster ≡ b.grandmaster → a.quality ≡ b.quality) → b.sender.clock ≢ b.receiver.clock → wins a b ≡ is_lt (rank_cmp a b)
+pub wins_is_before : (a b : Announcement) →
+    (a.grandmaster ≡ b.grandmaster → a.quality ≡ b.quality) → b.sender.clock ≢ b.receiver.clock → wins a b ≡ is_lt (rank_cmp a b)
 wins_is_before a b one ne =
     ⊎_elim
     (λ (same : eqb a.grandmaster.id b.grandmaster.id ≡ true).
@@ -150,7 +166,9 @@ wins_is_before a b one ne =
     ∙ steps_wins a.steps b.steps (port_cmp b.receiver b.sender) (port_cmp a.receiver a.sender) (ends_cmp a b) (ports_differ b.receiver b.sender (λ e. ne (sym e)))
     ∙ ap (λ o. is_lt (ordering_then o (path_cmp a b))) (sym masters))
     (λ (other : eqb a.grandmaster.id b.grandmaster.id ≡ false).
-    let differ : master_cmp a b ≢ Equal = λ e. eqb-false a.grandmaster.id b.grandmaster.id other (nat_cmp_same a.grandmaster.id b.grandmaster.id (both_equal (quality_cmp a.quality b.quality) (nat_cmp a.grandmaster.id b.grandmaster.id) e).1) in
+    let differ : master_cmp a b ≢ Equal = λ e.
+    let ids = (both_equal (quality_cmp a.quality b.quality) (nat_cmp a.grandmaster.id b.grandmaster.id) e).1 in
+    eqb-false a.grandmaster.id b.grandmaster.id other (nat_cmp_same a.grandmaster.id b.grandmaster.id ids) in
     ap is_a_winner (cond-false (eqb a.grandmaster.id b.grandmaster.id) _ _ other) ∙ better_is_lt (master_cmp a b) (path_cmp a b) differ)
     (cases_Bool (eqb a.grandmaster.id b.grandmaster.id))
 
@@ -158,10 +176,10 @@ wins_is_before a b one ne =
 not_before : (x y : Announcement) → is_lt (rank_cmp x y) ≡ false → is_gt (rank_cmp y x) ≡ false
 not_before x y e = ap is_gt (rank_cmp_total.antisymm y x) ∙ reversed (rank_cmp x y) e
   where
-  reversed : (o : Ordering) → is_lt o ≡ false → is_gt (ordering_reverse o) ≡ false
-  reversed Less e = e
-  reversed Equal e = refl
-  reversed Greater e = refl
+    reversed : (o : Ordering) → is_lt o ≡ false → is_gt (ordering_reverse o) ≡ false
+    reversed Less e = e
+    reversed Equal e = refl
+    reversed Greater e = refl
 
 before_is_not_after : (o : Ordering) → is_lt o ≡ true → is_gt o ≡ false
 before_is_not_after Less e = refl
@@ -181,7 +199,8 @@ record IsLeast (all xs : List Announcement) (first b : Announcement) : Type 0 wh
   upto_first : is_gt (rank_cmp b first) ≡ false
   upto_rest : AllByRecursion (λ a. is_gt (rank_cmp b a) ≡ false) xs
 
-least : (all : List Announcement) → RanksBefore all → (xs : List Announcement) (first b : Announcement) → Contains all first → AllByRecursion (Contains all) xs → fold better (Some first) xs ≡ Some b → IsLeast all xs first b
+least : (all : List Announcement) → RanksBefore all → (xs : List Announcement) (first b : Announcement) →
+    Contains all first → AllByRecursion (Contains all) xs → fold better (Some first) xs ≡ Some b → IsLeast all xs first b
 least all ranks [] first b here members e =
     let same = same_Some first b e in
     record {
@@ -230,11 +249,12 @@ one_from_tie all a b h in_a in_b e =
     let parts = both_equal (port_cmp a.sender b.sender) (nat_cmp a.receiver.port b.receiver.port) ends in
     let senders = same_port a.sender b.sender parts.0 in
     let numbers = nat_cmp_same a.receiver.port b.receiver.port parts.1 in
-    let receivers : a.receiver ≡ b.receiver = ap (λ (c : ClockId). let made : PortId = record { clock = c; port = a.receiver.port } in made) (h.one_receiver a b in_a in_b) ∙ ap (λ (n : ℕ). let made : PortId = record { clock = b.receiver.clock; port = n } in made) numbers in
+    let receivers : a.receiver ≡ b.receiver = port_from_parts a.receiver b.receiver (ap (λ (c : ClockId). c.id) (h.one_receiver a b in_a in_b)) numbers in
     h.told_apart a b in_a in_b senders receivers
 
 -- ---- the best is a member
-passed_member : (all xs : List Announcement) (first b : Announcement) → Contains all first → AllByRecursion (Contains all) xs → fold better (Some first) xs ≡ Some b → Contains all b
+passed_member : (all xs : List Announcement) (first b : Announcement) →
+    Contains all first → AllByRecursion (Contains all) xs → fold better (Some first) xs ≡ Some b → Contains all b
 passed_member all [] first b here members e = subst (Contains all) (same_Some first b e) here
 passed_member all (x ∷ xs) first b here members e =
     ⊎_elim

@@ -1,9 +1,8 @@
 -- The senders of the kept Announces, and their records.
-use Rattle.std.proofs.Common.{◌≡◌, ℕ, ◌+◌, ◌<◌, ◌≤◌, Bool, true, false, cond, ◌&&◌, eqb, leb, List, [], ◌∷◌, length, get_or, map, Option, Some, None, refl, sym, ap, subst, ◌∙◌, arith, inl, inr, ⊎_elim, zero, suc}
-use Rattle.std.specs.Prelude.{◌⊎◌, ◌↔◌}
+use Rattle.std.proofs.Common.{◌≡◌, ℕ, Bool, true, false, cond, eqb, leb, List, [], ◌∷◌, map, Option, Some, None, refl, sym, ap, ◌∙◌, inl, inr, ⊎_elim}
+use Rattle.std.specs.Prelude.{◌⊎◌}
 use Rattle.std.specs.Option.{option_map}
 use Rattle.std.specs.Ordering.{ordering_reverse}
-use Rattle.std.specs.declared.cmp.Ordering.{Ordering}
 use Rattle.std.specs.declared.cmp.Ordering.TheVariants.{Less, Equal, Greater}
 use Rattle.std.specs.List.{find, AllByRecursion}
 use Rattle.std.specs.List.Sorted.{IsStrictlySortedBy}
@@ -15,15 +14,17 @@ use Rattle.ptp_profile.specs.declared.foreign.KeptAnnounce.{KeptAnnounce}
 use Rattle.ptp_profile.specs.Identity.{is_same_port, port_cmp}
 use Rattle.ptp_profile.specs.Foreign.{is_from, count_from, placed, with_sender, senders, record_of, qualified}
 use Rattle.ptp_profile.specs.BestLaws.{SendersRise, SendersAreThose, QualifiedAreRecords}
-use Rattle.ptp_profile.proofs.BestLemmas.{port_cmp_total, same_port}
+use Rattle.ptp_profile.proofs.BestLemmas.{port_cmp_total, port_from_parts, same_port}
 use Rattle.ptp_profile.proofs.MemberLemmas.{Has, has_from_contains, contains_from_has, has_filter_map, filter_map_has}
 
 -- ---- the senders rise
-all_below : (s t : PortId) (ts : List PortId) → port_cmp s t ≡ Less → AllByRecursion (λ y. port_cmp t y ≡ Less) ts → AllByRecursion (λ y. port_cmp s y ≡ Less) ts
+all_below : (s t : PortId) (ts : List PortId) →
+    port_cmp s t ≡ Less → AllByRecursion (λ y. port_cmp t y ≡ Less) ts → AllByRecursion (λ y. port_cmp s y ≡ Less) ts
 all_below s t [] lt all = tt
 all_below s t (x ∷ ts) lt all = (port_cmp_total.trans s t x lt all.0, all_below s t ts lt all.1)
 
-below_with : (t s : PortId) (ts : List PortId) → port_cmp t s ≡ Less → AllByRecursion (λ y. port_cmp t y ≡ Less) ts → AllByRecursion (λ y. port_cmp t y ≡ Less) (with_sender s ts)
+below_with : (t s : PortId) (ts : List PortId) →
+    port_cmp t s ≡ Less → AllByRecursion (λ y. port_cmp t y ≡ Less) ts → AllByRecursion (λ y. port_cmp t y ≡ Less) (with_sender s ts)
 below_with t s [] lt all = (lt, tt)
 below_with t s (x ∷ ts) lt all =
     elim (port_cmp s x) as (λ o. AllByRecursion (λ y. port_cmp t y ≡ Less) (placed s x ts (with_sender s ts) o)) [
@@ -84,11 +85,10 @@ have_senders [] q h = h
 have_senders (k ∷ kept) q h = with_has k.said.sender (senders kept) q (⊎_elim (λ (same : k.said.sender ≡ q). inl same) (λ rest. inr (have_senders kept q rest)) h)
 
 pub senders_are_those : SendersAreThose
-senders_are_those kept s =
-    (
-      (λ h. contains_from_has (map sender_of kept) s (senders_have kept s (has_from_contains (senders kept) s h))),
-      (λ h. contains_from_has (senders kept) s (have_senders kept s (has_from_contains (map sender_of kept) s h)))
-    )
+senders_are_those kept s = (
+  (λ h. contains_from_has (map sender_of kept) s (senders_have kept s (has_from_contains (senders kept) s h))),
+  (λ h. contains_from_has (senders kept) s (have_senders kept s (has_from_contains (map sender_of kept) s h))),
+)
 
 -- ---- records
 from_is_same : (p q : PortId) → is_same_port p q ≡ true → p ≡ q
@@ -96,9 +96,10 @@ from_is_same p q e =
     let parts = and_parts (eqb p.clock.id q.clock.id) (eqb p.port q.port) e in
     let clocks = eqb-true p.clock.id q.clock.id parts.0 in
     let ports = eqb-true p.port q.port parts.1 in
-    ap (λ (id : ℕ). let made : PortId = record { clock = record { id = id }; port = p.port } in made) clocks ∙ ap (λ (n : ℕ). let made : PortId = record { clock = q.clock; port = n } in made) ports
+    port_from_parts p q clocks ports
 
-latest_from : (kept : List KeptAnnounce) (s : PortId) (a : Announcement) → option_map (λ (h : KeptAnnounce). h.said) (find (is_from s) kept) ≡ Some a → (a.sender ≡ s) × Has (map sender_of kept) s
+latest_from : (kept : List KeptAnnounce) (s : PortId) (a : Announcement) →
+    option_map (λ (h : KeptAnnounce). h.said) (find (is_from s) kept) ≡ Some a → (a.sender ≡ s) × Has (map sender_of kept) s
 latest_from [] s a e = absurd cc
 latest_from (k ∷ kept) s a e =
     ⊎_elim
@@ -111,21 +112,21 @@ latest_from (k ∷ kept) s a e =
     (rest.0, inr rest.1))
     (cases_Bool (is_from s k))
 
-latest_of_record : (b : Bool) (o : Option Announcement) (a : Announcement) → cond b o None ≡ Some a → o ≡ Some a
+pub latest_of_record : (b : Bool) (o : Option Announcement) (a : Announcement) → cond b o None ≡ Some a → o ≡ Some a
 latest_of_record true o a e = e
 latest_of_record false o a e = absurd cc
 
-pub record_from : (w m : ℕ) (kept : List KeptAnnounce) (s : PortId) (a : Announcement) → record_of w m kept s ≡ Some a → (a.sender ≡ s) × Has (map sender_of kept) s
+pub record_from : (w m : ℕ) (kept : List KeptAnnounce) (s : PortId) (a : Announcement) →
+    record_of w m kept s ≡ Some a → (a.sender ≡ s) × Has (map sender_of kept) s
 record_from w m kept s a e = latest_from kept s a (latest_of_record (leb 2 (count_from w m s kept)) _ a e)
 
 pub qualified_are_records : QualifiedAreRecords
-qualified_are_records w m kept a =
-    (
-      (λ h.
+qualified_are_records w m kept a = (
+  (λ h.
       let found = has_filter_map (record_of w m kept) (senders kept) a (has_from_contains (qualified w m kept) a h) in
       let from = record_from w m kept found.0 a found.2 in
       ap (record_of w m kept) from.0 ∙ found.2),
-      (λ e.
+  (λ e.
       let from = record_from w m kept a.sender a e in
-      contains_from_has (qualified w m kept) a (filter_map_has (record_of w m kept) (senders kept) a.sender a (have_senders kept a.sender from.1) e))
-    )
+      contains_from_has (qualified w m kept) a (filter_map_has (record_of w m kept) (senders kept) a.sender a (have_senders kept a.sender from.1) e)),
+)

@@ -1,18 +1,26 @@
 -- Announcements, kept Announces and ports by which the comparison, the records and the decision are shown.
-use Rattle.std.specs.Prelude.{ℕ, zero, suc, pos, false, true, List, [], ◌∷◌, ◌++◌, map, Option, Some, None}
+use Rattle.std.specs.Prelude.{ℕ, zero, suc, pos, false, List, [], ◌∷◌, ◌++◌, map, Some, None}
 use Rattle.ptp_base.specs.declared.announcement.Announcement.{Announcement}
 use Rattle.ptp_base.specs.declared.announcement.Quality.{Quality}
 use Rattle.ptp_base.specs.declared.identity.PortId.{PortId}
 use Rattle.ptp_base.specs.declared.port.PortState.{PortState}
+use Rattle.ptp_base.specs.declared.port.PortState.TheVariants.{Listening}
 use Rattle.ptp_profile.specs.declared.foreign.KeptAnnounce.{KeptAnnounce}
 use Rattle.ptp_profile.specs.declared.foreign.PortBest.{PortBest}
+use Rattle.ptp_profile.specs.Foreign.{erbest}
 
 abbrev pub port_id : ℕ → ℕ → PortId
 port_id clock port = record { clock = record { id = clock }; port = port }
 
 -- priority1, class, accuracy, variance and priority2
 abbrev pub quality : ℕ → ℕ → ℕ → ℕ → ℕ → Quality
-quality priority1 class accuracy variance priority2 = record { priority1 = priority1; class = class; accuracy = accuracy; variance = variance; priority2 = priority2 }
+quality priority1 class accuracy variance priority2 = record {
+  priority1 = priority1;
+  class = class;
+  accuracy = accuracy;
+  variance = variance;
+  priority2 = priority2;
+}
 
 -- the own clock, 020000.fffe.000001
 abbrev pub own_clock : ℕ
@@ -79,15 +87,24 @@ of_steps steps a = record a { steps = steps }
 abbrev pub of_master : ℕ → Quality → Announcement → Announcement
 of_master id q a = record a { grandmaster = record { id = id }; quality = q }
 
+-- the same Announce of another grandmaster and quality
+abbrev pub claimed : ℕ → Quality → Announcement
+claimed id q = of_master id q from_master
+
 -- the same by other ends, the sender first
 abbrev pub by_ends : PortId → PortId → Announcement → Announcement
 by_ends sender receiver a = record a { sender = sender; receiver = receiver }
 
+-- what the grandmaster says in so many steps, by this sender to this receiver
+abbrev pub path : ℕ → PortId → PortId → Announcement
+path steps sender receiver = by_ends sender receiver (of_steps steps from_master)
+
 -- by grandmaster, priority1, steps and sender
 abbrev pub claim : ℕ → ℕ → ℕ → ℕ → Announcement
-claim id priority1 steps sender = from_clock sender (of_steps steps (of_master id (quality priority1 6 0x21 0x4e5d 128) from_master))
+claim id priority1 steps sender = from_clock sender (of_steps steps (claimed id (quality priority1 6 0x21 0x4e5d 128)))
 
--- three announcements, each by the clock of its sender: the first wins against the second, the second against the third, and the third against the first
+-- three announcements, each by the clock of its sender: the first wins against the second, the second against the third, and the third
+-- against the first
 abbrev pub first_claim : ℕ → Announcement
 first_claim sender = claim 0x000c00fffe000001 10 5 sender
 
@@ -107,8 +124,20 @@ hearing state a = record { state = state; best = Some a }
 
 -- what a grandmaster of the same quality says, in so many steps, by this sender to this port of the own clock
 abbrev pub relayed : ℕ → PortId → ℕ → Announcement
-relayed steps sender port = by_ends sender (port_id own_clock port) (of_steps steps (of_master 0x000c00fffe000001 (quality 128 6 0x21 0x4e5d 128) from_master))
+relayed steps sender port = by_ends sender (port_id own_clock port) (of_steps steps (claimed 0x000c00fffe000001 (quality 128 6 0x21 0x4e5d 128)))
 
 -- the grandmaster's Announce with priority1 100
 abbrev pub preferred : Announcement
-preferred = of_master master_clock (quality 100 6 0x21 0x4e5d 128) from_master
+preferred = claimed master_clock (quality 100 6 0x21 0x4e5d 128)
+
+-- a port that listens and hears that
+abbrev pub hears_relayed : ℕ → PortId → ℕ → PortBest
+hears_relayed steps sender port = hearing Listening (relayed steps sender port)
+
+-- a port that listens and heard this at 1 s and at 3 s, as it stands at 3 s
+abbrev pub heard_twice : Announcement → PortBest
+heard_twice a = record { state = Listening; best = erbest window 3000000000 (kept_twice (a ∷ [])) }
+
+-- another grandmaster, of priority1 200, as port 2 hears it
+abbrev pub from_second_master : Announcement
+from_second_master = by_ends (port_id 0x000b00fffe000002 1) (port_id own_clock 2) (claimed 0x000b00fffe000002 (quality 200 6 0x21 0x4e5d 128))

@@ -47,7 +47,9 @@ present w m kept = filter (λ s. nat_le 1 (count_from w m s kept)) (senders kept
 
 -- a sender's record: its latest kept Announce, where two or more of its kept ones are in the window (9.3.2.5)
 abbrev pub record_of : ℕ → ℕ → List KeptAnnounce → PortId → Option Announcement
-record_of w m kept sender = if nat_le 2 (count_from w m sender kept) then option_map (λ (h : KeptAnnounce). h.said) (find (is_from sender) kept) else None
+record_of w m kept sender =
+    if nat_le 2 (count_from w m sender kept) then option_map (λ (h : KeptAnnounce). h.said) (find (is_from sender) kept)
+    else None
 
 -- the qualified set: the senders' records, in rising sender identity (9.3.2.5)
 abbrev pub qualified : ℕ → ℕ → List KeptAnnounce → List Announcement
@@ -66,7 +68,8 @@ winner all = fold better None all
 abbrev pub erbest : ℕ → ℕ → List KeptAnnounce → Option Announcement
 erbest w m kept = winner (qualified w m kept)
 
--- Ebest: the winner of one pass over the ports' best in rising port number; a port without one counts for nothing (9.3.2.2; the order of the pass is own)
+-- Ebest: the winner of one pass over the ports' best in rising port number, without the ports that have none
+-- (9.3.2.2; the order of the pass is own)
 abbrev pub ebest : List (Option Announcement) → Option Announcement
 ebest bests = winner (filter_map (λ best. best) bests)
 
@@ -74,7 +77,8 @@ ebest bests = winner (filter_map (λ best. best) bests)
 abbrev pub is_crowded : ℕ → ℕ → List KeptAnnounce → PortId → Bool
 is_crowded w m kept sender = (count_from w m sender kept == 0) && nat_le 16 (length (present w m kept))
 
--- what becomes of an Announce that is heard at m: the first of own, far, alternate and crowded that holds, else it is kept (9.3.2.5; crowded is own)
+-- what becomes of an Announce that is heard at m: the first of own, far, alternate and crowded that holds, else it is kept
+-- (9.3.2.5; crowded is own)
 abbrev pub hearing_of : ℕ → ℕ → List KeptAnnounce → Announcement → Heard
 hearing_of w m kept a =
     if a.sender.clock.id == a.receiver.clock.id then Own

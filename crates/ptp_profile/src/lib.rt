@@ -10,7 +10,10 @@ mod roles;
 mod seats;
 mod timing;
 
-pub use best_master::{announces_heard, best_wins, class_decides, masters_compared, one_follows, pass_in_order, paths_compared, ports_decided, qualified_set, two_qualify};
+pub use best_master::{
+    announces_heard, best_wins, class_decides, coherent_sets, masters_compared, one_follows,
+    pass_in_order, paths_compared, ports_decided, qualified_set, two_qualify,
+};
 pub use foreign::{Heard, KeptAnnounce, Order, PortBest};
 pub use message::{Body, Message, Reject, Said};
 pub use port::{Fate, PortEvent, Timer};
