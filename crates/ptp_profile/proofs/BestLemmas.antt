@@ -40,10 +40,14 @@ abbrev pub rank_cmp : Announcement → Announcement → Ordering
 rank_cmp a b = ordering_then (master_cmp a b) (path_cmp a b)
 
 master_cmp_total : IsTotalOrder master_cmp
-master_cmp_total = then_total (on_total (λ (a : Announcement). a.quality) quality_cmp_total) (on_total (λ (a : Announcement). a.grandmaster.id) nat_cmp_total)
+master_cmp_total =
+    then_total (on_total (λ (a : Announcement). a.quality) quality_cmp_total)
+    (on_total (λ (a : Announcement). a.grandmaster.id) nat_cmp_total)
 
 ends_cmp_total : IsTotalOrder ends_cmp
-ends_cmp_total = then_total (on_total (λ (a : Announcement). a.sender) port_cmp_total) (on_total (λ (a : Announcement). a.receiver.port) nat_cmp_total)
+ends_cmp_total =
+    then_total (on_total (λ (a : Announcement). a.sender) port_cmp_total)
+    (on_total (λ (a : Announcement). a.receiver.port) nat_cmp_total)
 
 pub rank_cmp_total : IsTotalOrder rank_cmp
 rank_cmp_total = then_total master_cmp_total (then_total (on_total (λ (a : Announcement). a.steps) nat_cmp_total) ends_cmp_total)
@@ -111,7 +115,8 @@ steps_order m n of_b of_a ends =
     (cond (ltb m n) (a_is_nearer of_b)
     (cond (ltb n m) (b_is_nearer of_a) (lower_is_nearer ends))))
 
-steps_wins : (m n : ℕ) (of_b of_a ends : Ordering) → of_b ≢ Equal → is_a_winner (steps_order m n of_b of_a ends) ≡ is_lt (ordering_then (nat_cmp m n) ends)
+steps_wins : (m n : ℕ) (of_b of_a ends : Ordering) →
+    of_b ≢ Equal → is_a_winner (steps_order m n of_b of_a ends) ≡ is_lt (ordering_then (nat_cmp m n) ends)
 steps_wins m n of_b of_a ends ne =
     ⊎_elim
     (λ (same : m ≡ n).
@@ -128,7 +133,8 @@ steps_wins m n of_b of_a ends ne =
     (⊎_elim
     (λ (less : m < n).
     let down : m ≤ n + 1 = omega arith in
-    ap (λ x. is_a_winner (cond (ltb (m + 1) n) ABetter x)) (cond-false (ltb (n + 1) m) _ _ (le-ltb (n + 1) m down) ∙ cond-true (ltb m n) _ _ (lt-ltb m n less))
+    ap (λ x. is_a_winner (cond (ltb (m + 1) n) ABetter x)) (cond-false (ltb (n + 1) m) _ _ (le-ltb (n + 1) m down)
+    ∙ cond-true (ltb m n) _ _ (lt-ltb m n less))
     ∙ lt_path (ltb (m + 1) n) of_b ne
     ∙ ap (λ o. is_lt (ordering_then o ends)) (sym (nat_cmp_less m n less)))
     (λ (more : n < m).
@@ -163,7 +169,8 @@ wins_is_before a b one ne =
     ∙ ap (nat_cmp a.grandmaster.id) (sym ids)
     ∙ nat_cmp_itself a.grandmaster.id in
     ap is_a_winner (cond-true (eqb a.grandmaster.id b.grandmaster.id) _ _ same)
-    ∙ steps_wins a.steps b.steps (port_cmp b.receiver b.sender) (port_cmp a.receiver a.sender) (ends_cmp a b) (ports_differ b.receiver b.sender (λ e. ne (sym e)))
+    ∙ steps_wins a.steps b.steps (port_cmp b.receiver b.sender) (port_cmp a.receiver a.sender) (ends_cmp a b)
+    (ports_differ b.receiver b.sender (λ e. ne (sym e)))
     ∙ ap (λ o. is_lt (ordering_then o (path_cmp a b))) (sym masters))
     (λ (other : eqb a.grandmaster.id b.grandmaster.id ≡ false).
     let differ : master_cmp a b ≢ Equal = λ e.
@@ -249,7 +256,8 @@ one_from_tie all a b h in_a in_b e =
     let parts = both_equal (port_cmp a.sender b.sender) (nat_cmp a.receiver.port b.receiver.port) ends in
     let senders = same_port a.sender b.sender parts.0 in
     let numbers = nat_cmp_same a.receiver.port b.receiver.port parts.1 in
-    let receivers : a.receiver ≡ b.receiver = port_from_parts a.receiver b.receiver (ap (λ (c : ClockId). c.id) (h.one_receiver a b in_a in_b)) numbers in
+    let receivers : a.receiver ≡ b.receiver =
+    port_from_parts a.receiver b.receiver (ap (λ (c : ClockId). c.id) (h.one_receiver a b in_a in_b)) numbers in
     h.told_apart a b in_a in_b senders receivers
 
 -- ---- the best is a member

@@ -79,7 +79,8 @@ one_follows own ports i j at_i at_j = one_named i j (ebest (bests_of ports)) (fo
 
 -- Ebest stands at the port that it names
 stands : (ports : List PortBest) (i : ℕ) (o : Option Announcement) →
-    AreHeardThere ports → ebest (bests_of ports) ≡ o → IsSomeAnd o (λ (best : Announcement). best.receiver.port ≡ i + 1) → slice_get (bests_of ports) i ≡ Some o
+    AreHeardThere ports → ebest (bests_of ports) ≡ o →
+    IsSomeAnd o (λ (best : Announcement). best.receiver.port ≡ i + 1) → slice_get (bests_of ports) i ≡ Some o
 stands ports i None there e is = absurd is
 stands ports i (Some best) there e is =
     let member = has_from_contains (filter_map (λ (x : Option Announcement). x) (bests_of ports)) best (best_is_member _ best e) in

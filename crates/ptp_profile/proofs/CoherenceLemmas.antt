@@ -32,7 +32,8 @@ coherent_of_clock all clock each agree apart =
 abbrev said_of : KeptAnnounce → Announcement
 said_of h = h.said
 
-latest_is_kept : (kept : List KeptAnnounce) (s : PortId) (a : Announcement) → option_map said_of (find (is_from s) kept) ≡ Some a → Has (map said_of kept) a
+latest_is_kept : (kept : List KeptAnnounce) (s : PortId) (a : Announcement) →
+    option_map said_of (find (is_from s) kept) ≡ Some a → Has (map said_of kept) a
 latest_is_kept [] s a e = absurd cc
 latest_is_kept (k ∷ kept) s a e =
     ⊎_elim

@@ -50,7 +50,8 @@ filter_map_has {X} {Y} f (z ∷ xs) x y h e =
     ] refl
 
 -- ---- what stands at a place
-pub slice_get-enumerate_from : {X : Type 0} (n : ℕ) (xs : List X) (i : ℕ) → slice_get (enumerate_from n xs) i ≡ option_map (λ x. (n + i, x)) (slice_get xs i)
+pub slice_get-enumerate_from : {X : Type 0} (n : ℕ) (xs : List X) (i : ℕ) →
+    slice_get (enumerate_from n xs) i ≡ option_map (λ x. (n + i, x)) (slice_get xs i)
 slice_get-enumerate_from n [] i = refl
 slice_get-enumerate_from {X} n (x ∷ xs) zero = let e : n ≡ n + 0 = omega arith in ap (λ (k : ℕ). let pair : ℕ × X = (k, x) in Some pair) e
 slice_get-enumerate_from {X} n (x ∷ xs) (suc i) =

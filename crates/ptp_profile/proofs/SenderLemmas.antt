@@ -78,11 +78,14 @@ sender_of h = h.said.sender
 
 senders_have : (kept : List KeptAnnounce) (q : PortId) → Has (senders kept) q → Has (map sender_of kept) q
 senders_have [] q h = h
-senders_have (k ∷ kept) q h = ⊎_elim (λ (same : k.said.sender ≡ q). inl same) (λ rest. inr (senders_have kept q rest)) (has_with k.said.sender (senders kept) q h)
+senders_have (k ∷ kept) q h =
+    ⊎_elim (λ (same : k.said.sender ≡ q). inl same)
+    (λ rest. inr (senders_have kept q rest)) (has_with k.said.sender (senders kept) q h)
 
 have_senders : (kept : List KeptAnnounce) (q : PortId) → Has (map sender_of kept) q → Has (senders kept) q
 have_senders [] q h = h
-have_senders (k ∷ kept) q h = with_has k.said.sender (senders kept) q (⊎_elim (λ (same : k.said.sender ≡ q). inl same) (λ rest. inr (have_senders kept q rest)) h)
+have_senders (k ∷ kept) q h =
+    with_has k.said.sender (senders kept) q (⊎_elim (λ (same : k.said.sender ≡ q). inl same) (λ rest. inr (have_senders kept q rest)) h)
 
 pub senders_are_those : SendersAreThose
 senders_are_those kept s = (
@@ -104,7 +107,8 @@ latest_from [] s a e = absurd cc
 latest_from (k ∷ kept) s a e =
     ⊎_elim
     (λ (yes : is_from s k ≡ true).
-    let said : k.said ≡ a = same_Some k.said a (ap (λ t. option_map (λ (h : KeptAnnounce). h.said) (cond t (Some k) (find (is_from s) kept))) (sym yes) ∙ e) in
+    let said : k.said ≡ a =
+    same_Some k.said a (ap (λ t. option_map (λ (h : KeptAnnounce). h.said) (cond t (Some k) (find (is_from s) kept))) (sym yes) ∙ e) in
     let from = from_is_same k.said.sender s yes in
     (sym (ap (λ (x : Announcement). x.sender) said) ∙ from, inl from))
     (λ (no : is_from s k ≡ false).

@@ -24,7 +24,7 @@ AreHeardThere ports = (i : ℕ) (a : Announcement) → slice_get (bests_of ports
 abbrev pub AgreeOnQuality : List Announcement → Type 0
 AgreeOnQuality all = (a b : Announcement) → Contains all a → Contains all b → a.grandmaster ≡ b.grandmaster → a.quality ≡ b.quality
 
--- a set of announcements as the ports of one clock hear it where all that is said of a grandmaster is alike
+-- a coherent set of announcements: what the ports of one clock hear from others, where all that is said of a grandmaster's quality is alike
 pub record IsCoherent (all : List Announcement) : Type 0 where
   -- equal grandmasters have equal quality
   pub one_quality : AgreeOnQuality all
@@ -66,7 +66,7 @@ BestIsMember = (all : List Announcement) (best : Announcement) → winner all �
 abbrev pub NoBestOfNone : Type 0
 NoBestOfNone = (all : List Announcement) → (winner all ≡ None) ↔ (length all ≡ 0)
 
--- the senders rise, so that each stands there once
+-- the senders rise, and so each is there once
 abbrev pub SendersRise : Type 0
 SendersRise = (kept : List KeptAnnounce) → IsStrictlySortedBy port_cmp (senders kept)
 

@@ -32,13 +32,15 @@ lower_is_better Greater = BBetter
 abbrev pub by_master : Announcement → Announcement → Order
 by_master a b = lower_is_better (master_cmp a b)
 
--- a has one step less: so much better it is where the receiver of b is below, at or above the sender of b (9.3.4, figure 35)
+-- a has one step less: it is better, the same or better by topology where the receiver of b is below, at or above the sender of b
+-- (9.3.4, figure 35)
 abbrev pub a_is_nearer : Ordering → Order
 a_is_nearer Less = ABetter
 a_is_nearer Equal = Same
 a_is_nearer Greater = ATopo
 
--- b has one step less: so much better it is where the receiver of a is below, at or above the sender of a (9.3.4, figure 35)
+-- b has one step less: it is better, the same or better by topology where the receiver of a is below, at or above the sender of a
+-- (9.3.4, figure 35)
 abbrev pub b_is_nearer : Ordering → Order
 b_is_nearer Less = BBetter
 b_is_nearer Equal = Same

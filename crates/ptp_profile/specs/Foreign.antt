@@ -1,8 +1,9 @@
 -- The Announces that a port keeps, and the best of them (IEEE 1588-2019, 9.3.2). A list of kept Announces has the newest first, and begins anew
 -- at each reset of the port.
-use Rattle.std.specs.Prelude.{ℕ, ◌+◌, Bool, ◌==◌, ◌&&◌, nat_lt, nat_le, if◌then◌else◌, List, [], ◌∷◌, length, count_by, filter, filter_map, find, fold, option_map, Option, Some, None}
+use Rattle.std.specs.Prelude.{ℕ, ℤ, ◌+◌, ◌*◌, Bool, ◌==◌, ◌&&◌, nat_lt, nat_le, if◌then◌else◌, List, [], ◌∷◌, length, count_by, filter, filter_map, find, fold, option_map, Option, Some, None}
 use Rattle.std.specs.declared.cmp.Ordering.{Ordering}
 use Rattle.std.specs.declared.cmp.Ordering.TheVariants.{Less, Equal, Greater}
+use Rattle.ptp_base.specs.Floor.{interval_of}
 use Rattle.ptp_base.specs.declared.identity.PortId.{PortId}
 use Rattle.ptp_base.specs.declared.announcement.Announcement.{Announcement}
 use Rattle.ptp_profile.specs.declared.foreign.KeptAnnounce.{KeptAnnounce}
@@ -12,6 +13,10 @@ use Rattle.ptp_profile.specs.declared.port.Fate.{Fate}
 use Rattle.ptp_profile.specs.declared.port.Fate.TheVariants.{Kept as Fate_kept, Own as Fate_own, Far as Fate_far, Alternate as Fate_alternate, Crowded as Fate_crowded}
 use Rattle.ptp_profile.specs.Identity.{is_same_port, port_cmp}
 use Rattle.ptp_profile.specs.Compare.{wins}
+
+-- the length of the foreign master window: four announce intervals, by the logarithm of one (9.3.2)
+abbrev pub window_of : ℤ → ℕ
+window_of log = 4 * interval_of log
 
 -- a kept Announce is of this sender (9.3.2.5)
 abbrev pub is_from : PortId → KeptAnnounce → Bool
@@ -25,13 +30,13 @@ is_in_window w m h = nat_lt m (h.at + w) && nat_le h.at m
 abbrev pub count_from : ℕ → ℕ → PortId → List KeptAnnounce → ℕ
 count_from w m sender kept = count_by (λ h. is_from sender h && is_in_window w m h) kept
 
--- where a sender stands before, at or after the first of the others: in front, nowhere anew, or further on
+-- a sender among rising others, by its comparison with the first of them: it goes in front, it is there already, or it goes further on
 abbrev pub placed : PortId → PortId → List PortId → List PortId → Ordering → List PortId
 placed s t ts further Less = s ∷ t ∷ ts
 placed s t ts further Equal = t ∷ ts
 placed s t ts further Greater = t ∷ further
 
--- rising senders with one more, which stands there once
+-- rising senders and one more, which then is there once
 abbrev pub with_sender : PortId → List PortId → List PortId
 with_sender s [] = s ∷ []
 with_sender s (t ∷ ts) = placed s t ts (with_sender s ts) (port_cmp s t)
@@ -64,12 +69,12 @@ better (Some b) a = if wins a b then Some a else Some b
 abbrev pub winner : List Announcement → Option Announcement
 winner all = fold better None all
 
--- Erbest: the winner of one pass over the qualified set in rising sender identity (9.3.2.3; the order of the pass is own)
+-- Erbest: the winner of one pass over the qualified set in rising sender identity (9.3.2; the order of the pass is own)
 abbrev pub erbest : ℕ → ℕ → List KeptAnnounce → Option Announcement
 erbest w m kept = winner (qualified w m kept)
 
 -- Ebest: the winner of one pass over the ports' best in rising port number, without the ports that have none
--- (9.3.2.2; the order of the pass is own)
+-- (9.3.2; the order of the pass is own)
 abbrev pub ebest : List (Option Announcement) → Option Announcement
 ebest bests = winner (filter_map (λ best. best) bests)
 

@@ -1,10 +1,11 @@
-ghost use Rattle.std.specs.Prelude.{◌≡◌, [], ◌∷◌, Some, None, true};
+ghost use Rattle.std.specs.Prelude.{◌≡◌, [], ◌∷◌, Some, None, pos, true, map};
 ghost use Rattle.ptp_base.specs.declared.decision.Code.TheVariants.{Stay, M1, M2, M3, P1, P2, S1};
-ghost use Rattle.ptp_base.specs.declared.port.PortState.TheVariants.{Faulty, Disabled, Initializing, Listening, Master, Passive, Slave};
+ghost use Rattle.ptp_base.specs.declared.port.PortState.TheVariants.{Faulty, Disabled, Initializing, Listening, PreMaster, Master, Passive, Uncalibrated, Slave};
 ghost use Rattle.ptp_profile.specs.declared.foreign.Heard.TheVariants.{Own, Far, Alternate, Crowded, Kept};
+ghost use Rattle.ptp_profile.specs.declared.port.Fate.TheVariants.{Own as Fate_own, Far as Fate_far, Alternate as Fate_alternate, Crowded as Fate_crowded, Kept as Fate_kept};
 ghost use Rattle.ptp_profile.specs.declared.foreign.Order.TheVariants.{ABetter, ATopo, BBetter, BTopo, Same};
 ghost use Rattle.ptp_profile.specs.Compare.{order_of};
-ghost use Rattle.ptp_profile.specs.Foreign.{hearing_of, qualified, erbest, ebest};
+ghost use Rattle.ptp_profile.specs.Foreign.{hearing_of, fate_of_hearing, window_of, qualified, erbest, ebest};
 ghost use Rattle.ptp_profile.specs.Decision.{codes_of};
 ghost use Rattle.ptp_profile.specs.BestLaws.{BestWins, BestIsMember, NoBestOfNone, QualifiedAreCoherent, BestsAreCoherent};
 ghost use Rattle.ptp_profile.specs.BestLaws.{SendersRise, SendersAreThose, QualifiedAreRecords, OneFollows, FollowerIsNamed, FollowerHearsBest};
@@ -121,7 +122,7 @@ pub fn paths_compared()
 {}
 
 /// Three announcements each of which wins against one of the others: the winner of a pass goes by
-/// the order of their senders.
+/// the order of their senders. A later one that is the same in the comparison replaces nothing.
 pub fn pass_in_order()
     ensures first_second { order_of (first_claim 1) (second_claim 2) ≡ ABetter }
     ensures second_third { order_of (second_claim 2) (third_claim 3) ≡ ABetter }
@@ -135,6 +136,9 @@ pub fn pass_in_order()
     ensures second_wins { erbest window 3000000000
         (kept_twice (first_claim 2 ∷ second_claim 3 ∷ third_claim 1 ∷ []))
         ≡ Some (second_claim 3) }
+    ensures first_stays { ebest
+        (Some (path 4 (port_id 5 1) (port_id 5 1)) ∷ Some (path 3 (port_id 1 1) (port_id 5 1)) ∷ [])
+        ≡ Some (path 4 (port_id 5 1) (port_id 5 1)) }
     ensures by_port { ebest
         (Some (second_claim 1) ∷ None ∷ Some (third_claim 2) ∷ Some (first_claim 3) ∷ [])
         ≡ Some (first_claim 3) }
@@ -143,6 +147,7 @@ pub fn pass_in_order()
 /// A sender's first Announce doesn't qualify it, its second does while both are in the window. The
 /// record is the latest one.
 pub fn two_qualify()
+    ensures window { window_of (pos 1) ≡ window }
     ensures one { qualified window 1000000000 (kept_at 1000000000 from_master ∷ []) ≡ [] }
     ensures two { qualified window 3000000000
         (kept_at 3000000000 from_master ∷ kept_at 1000000000 from_master ∷ [])
@@ -196,6 +201,8 @@ pub fn announces_heard()
     ensures known { hearing_of window 1000000000 (kept_of 16) (from_clock 16 from_master) ≡ Kept }
     ensures crowded_still { hearing_of window 8999999999 (kept_of 16) from_master ≡ Crowded }
     ensures window_is_over { hearing_of window 9000000000 (kept_of 16) from_master ≡ Kept }
+    ensures fates { map fate_of_hearing (Own ∷ Far ∷ Alternate ∷ Crowded ∷ Kept ∷ [])
+        ≡ Fate_own ∷ Fate_far ∷ Fate_alternate ∷ Fate_crowded ∷ Fate_kept ∷ [] }
 {}
 
 /// The codes of two ports that hear one grandmaster, and of ports that decide nothing.
@@ -216,8 +223,8 @@ pub fn ports_decided()
         (hearing Faulty from_master ∷ hearing Disabled from_master ∷ hearing Initializing from_master ∷ silent Listening ∷ [])
         ≡ Stay ∷ Stay ∷ Stay ∷ Stay ∷ [] }
     ensures alone { codes_of own_default
-        (silent Master ∷ silent Passive ∷ silent Slave ∷ silent Listening ∷ [])
-        ≡ M2 ∷ M2 ∷ M2 ∷ Stay ∷ [] }
+        (silent PreMaster ∷ silent Master ∷ silent Passive ∷ silent Uncalibrated ∷ silent Slave ∷ silent Listening ∷ [])
+        ≡ M2 ∷ M2 ∷ M2 ∷ M2 ∷ M2 ∷ Stay ∷ [] }
     ensures worse_master { codes_of own_default
         (hears_relayed 1 (port_id master_clock 1) 1 ∷ hearing Listening from_second_master ∷ [])
         ≡ S1 ∷ M3 ∷ [] }
