@@ -1,10 +1,10 @@
 -- The senders of the kept Announces, and their records.
-use Rattle.std.proofs.Common.{◌≡◌, ℕ, Bool, true, false, cond, eqb, leb, List, [], ◌∷◌, map, Option, Some, None, refl, sym, ap, ◌∙◌, inl, inr, ⊎_elim}
+use Rattle.std.proofs.Common.{◌≡◌, ℕ, Bool, true, false, cond, eqb, leb, List, [], ◌∷◌, map, subst, Option, Some, None, refl, sym, ap, ◌∙◌, inl, inr, ⊎_elim}
 use Rattle.std.specs.Prelude.{◌⊎◌}
 use Rattle.std.specs.Option.{option_map}
 use Rattle.std.specs.Ordering.{ordering_reverse}
 use Rattle.std.specs.declared.cmp.Ordering.TheVariants.{Less, Equal, Greater}
-use Rattle.std.specs.List.{find, AllByRecursion}
+use Rattle.std.specs.List.{find, filter_map, cons_option, AllByRecursion}
 use Rattle.std.specs.List.Sorted.{IsStrictlySortedBy}
 use Rattle.std.proofs.lemmas.Bool.{cases_Bool, and_parts, eqb-true}
 use Rattle.std.proofs.lemmas.Option.{same_Some}
@@ -13,7 +13,7 @@ use Rattle.ptp_base.specs.declared.identity.PortId.{PortId}
 use Rattle.ptp_profile.specs.declared.foreign.KeptAnnounce.{KeptAnnounce}
 use Rattle.ptp_profile.specs.Identity.{is_same_port, port_cmp}
 use Rattle.ptp_profile.specs.Foreign.{is_from, count_from, placed, with_sender, senders, record_of, qualified}
-use Rattle.ptp_profile.specs.BestLaws.{SendersRise, SendersAreThose, QualifiedAreRecords}
+use Rattle.ptp_profile.specs.BestLaws.{SendersRise, SendersAreThose, QualifiedRise, QualifiedAreRecords}
 use Rattle.ptp_profile.proofs.BestLemmas.{port_cmp_total, port_from_parts, same_port}
 use Rattle.ptp_profile.proofs.MemberLemmas.{Has, has_from_contains, contains_from_has, has_filter_map, filter_map_has}
 
@@ -134,3 +134,34 @@ qualified_are_records w m kept a = (
       let from = record_from w m kept a.sender a e in
       contains_from_has (qualified w m kept) a (filter_map_has (record_of w m kept) (senders kept) a.sender a (have_senders kept a.sender from.1) e)),
 )
+
+-- ---- what rising senders give rises
+abbrev senders_of : List Announcement → List PortId
+senders_of all = map (λ (a : Announcement). a.sender) all
+
+above_given : (f : PortId → Option Announcement) (s : PortId) (ts : List PortId) →
+    ((t : PortId) (a : Announcement) → f t ≡ Some a → a.sender ≡ t) →
+    AllByRecursion (λ y. port_cmp s y ≡ Less) ts → AllByRecursion (λ y. port_cmp s y ≡ Less) (senders_of (filter_map f ts))
+above_given f s [] from all = tt
+above_given f s (t ∷ ts) from all =
+    elim (f t) as (λ o. f t ≡ o → AllByRecursion (λ y. port_cmp s y ≡ Less) (senders_of (cons_option o (filter_map f ts)))) [
+      | None ↦ λ e. above_given f s ts from all.1
+      | Some a ↦ λ e. (subst (λ y. port_cmp s y ≡ Less) (sym (from t a e)) all.0, above_given f s ts from all.1)
+    ] refl
+
+given_rise : (f : PortId → Option Announcement) (ts : List PortId) →
+    ((t : PortId) (a : Announcement) → f t ≡ Some a → a.sender ≡ t) →
+    IsStrictlySortedBy port_cmp ts → IsStrictlySortedBy port_cmp (senders_of (filter_map f ts))
+unfolding IsStrictlySortedBy
+given_rise f [] from up = tt
+given_rise f (t ∷ ts) from up =
+    elim (f t) as (λ o. f t ≡ o → IsStrictlySortedBy port_cmp (senders_of (cons_option o (filter_map f ts)))) [
+      | None ↦ λ e. given_rise f ts from up.1
+      | Some a ↦ λ e. (
+        subst (λ s. AllByRecursion (λ y. port_cmp s y ≡ Less) (senders_of (filter_map f ts))) (sym (from t a e)) (above_given f t ts from up.0),
+        given_rise f ts from up.1,
+      )
+    ] refl
+
+pub qualified_rise : QualifiedRise
+qualified_rise w m kept = given_rise (record_of w m kept) (senders kept) (λ t a e. (record_from w m kept t a e).0) (senders_rise kept)

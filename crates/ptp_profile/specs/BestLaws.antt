@@ -76,6 +76,10 @@ SendersAreThose =
     (kept : List KeptAnnounce) (s : PortId) →
     Contains (senders kept) s ↔ Contains (map (λ (h : KeptAnnounce). h.said.sender) kept) s
 
+-- the qualified set is in rising sender identity, and so has each sender once
+abbrev pub QualifiedRise : Type 0
+QualifiedRise = (w m : ℕ) (kept : List KeptAnnounce) → IsStrictlySortedBy port_cmp (map (λ (a : Announcement). a.sender) (qualified w m kept))
+
 -- a member of the qualified set is the record of its sender
 abbrev pub QualifiedAreRecords : Type 0
 QualifiedAreRecords =

@@ -8,7 +8,7 @@ ghost use Rattle.ptp_profile.specs.Compare.{order_of};
 ghost use Rattle.ptp_profile.specs.Foreign.{hearing_of, fate_of_hearing, window_of, qualified, erbest, ebest};
 ghost use Rattle.ptp_profile.specs.Decision.{codes_of};
 ghost use Rattle.ptp_profile.specs.BestLaws.{BestWins, BestIsMember, NoBestOfNone, QualifiedAreCoherent, BestsAreCoherent};
-ghost use Rattle.ptp_profile.specs.BestLaws.{SendersRise, SendersAreThose, QualifiedAreRecords, OneFollows, FollowerIsNamed, FollowerHearsBest};
+ghost use Rattle.ptp_profile.specs.BestLaws.{SendersRise, SendersAreThose, QualifiedRise, QualifiedAreRecords, OneFollows, FollowerIsNamed, FollowerHearsBest};
 ghost use Rattle.ptp_profile.specs.BestExamples.{port_id, quality, own_clock, own_of_class, own_default, master_clock, from_master, window, kept_at, kept_twice, from_clock, kept_of, of_steps};
 ghost use Rattle.ptp_profile.specs.BestExamples.{claimed, by_ends, path, first_claim, second_claim, third_claim, silent, hearing, preferred, hears_relayed, heard_twice, from_second_master};
 
@@ -32,6 +32,7 @@ pub fn coherent_sets()
 pub fn qualified_set()
     ensures rise { SendersRise }
     ensures those { SendersAreThose }
+    ensures order { QualifiedRise }
     ensures records { QualifiedAreRecords }
 {}
 
