@@ -1,5 +1,5 @@
 -- The servo, and what it asks of a clock.
-use Rattle.std.specs.Prelude.{ℕ, ℤ, pos, negsuc, ◌*◌, ◌+ℤ◌, ◌-ℤ◌, ◌*ℤ◌, neg_ℤ, nat_abs, int_lt, int_le, Bool, true, false, not, ◌==◌, ◌&&◌, ◌||◌, nat_lt, if◌then◌else◌, List, [], ◌∷◌}
+use Rattle.std.specs.Prelude.{ℕ, ℤ, pos, negsuc, ◌*◌, ◌+ℤ◌, ◌-ℤ◌, ◌*ℤ◌, neg_ℤ, nat_abs, int_lt, int_le, Bool, true, false, not, ◌==◌, ◌&&◌, ◌||◌, nat_lt, if◌then◌else◌, List, [], ◌∷◌, reverse}
 use Rattle.ptp_base.specs.Floor.{floor_of}
 use Rattle.ptp_profile.specs.declared.timing.Action.{Action}
 use Rattle.ptp_profile.specs.declared.timing.Action.TheVariants.{Unlocked, Jump, Locked}
@@ -65,3 +65,11 @@ steer_run conf v gener (x ∷ xs) = if x.gener == gener then action_of conf v x 
 abbrev pub steer : ServoConf → List Sample → List Action
 steer conf [] = []
 steer conf (x ∷ xs) = steer_run conf (fresh conf x.freq) x.gener (x ∷ xs)
+
+abbrev pub last_action : List Action → Action
+last_action [] = Unlocked
+last_action (a ∷ []) = a
+last_action (a ∷ b ∷ rest) = last_action (b ∷ rest)
+
+abbrev pub newest_action : ServoConf → List Sample → Action
+newest_action conf samples = last_action (steer conf (reverse samples))
