@@ -3,6 +3,7 @@
 
 mod entry;
 mod examples;
+mod laws;
 mod scenario;
 
 pub use entry::{
@@ -10,6 +11,7 @@ pub use entry::{
     Run, Seen, Sends, Sent, Told, Who,
 };
 pub use examples::silent_ports;
+pub use laws::at_most_one_follows;
 pub use scenario::{
     Asked, AskedList, ClockStates, Happening, Options, PortConfs, Record, RecordList, Scenario,
     Turner, Turns, TurnsList,

@@ -1,0 +1,11 @@
+ghost use Rattle.std.specs.Prelude.{List};
+ghost use Rattle.ptp_profile.specs.Roles.{AtMostOneFollows};
+ghost use Rattle.bc_history.specs.Generations.{states_of};
+ghost use Rattle.bc_history.specs.Step.{state_of};
+ghost use Rattle.bc_history.specs.declared.entry.Entry.{Entry};
+ghost use Rattle.bc_history.specs.declared.scenario.Scenario.{Scenario};
+
+/// After every list of entries at most one port is UNCALIBRATED or SLAVE.
+pub fn at_most_one_follows()
+    ensures { (s : Scenario) (entries : List Entry) → AtMostOneFollows (states_of (state_of s entries).core.ports) }
+{}
