@@ -10,7 +10,10 @@ pub use entry::{
     Answers, AskError, Effects, Entries, Entry, Input, Logs, Moved, Moves, Outcome, RoleOrders,
     Run, Seen, Sends, Sent, Told, Who,
 };
-pub use examples::silent_ports;
+pub use examples::{
+    class_decides, follows_a_master, follows_on_one_clock, frames_pair, handed_over, log_is_full,
+    master_sends, qualification_waits, silent_ports, told_too_late, two_announces_qualify,
+};
 pub use laws::at_most_one_follows;
 pub use scenario::{
     Asked, AskedList, ClockStates, Happening, Options, PortConfs, Record, RecordList, Scenario,
