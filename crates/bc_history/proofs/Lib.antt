@@ -1,2 +1,4 @@
 pub mod States
 pub mod Following
+pub mod Ends
+pub mod SilentWorld

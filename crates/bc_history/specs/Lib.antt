@@ -10,4 +10,6 @@ pub mod Effects
 pub mod Next
 pub mod History
 pub mod World
+pub mod Silent
 pub mod Examples
+pub mod Text

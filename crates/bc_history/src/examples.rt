@@ -1,6 +1,7 @@
 ghost use Rattle.std.specs.Prelude.{◌≡◌, ◌∷◌, [], Some, None, option_map, pos};
 ghost use Rattle.bc_history.specs.World.{Status, Ended, Finished, status_after};
-ghost use Rattle.bc_history.specs.Examples.{silent, two_masters, realistic, on_one_clock, handover, unsubscribed, two_rows, one_port, frame_at, announce_frame, hears_twice, two_masters_heard, worse_heard, summary_after, ending_after, moves_after, at, reports_after, move, order, sent_first, lengths_after, first_sync, first_follow_up, goes_down, fates_after, syncs_alone, responds_twice};
+ghost use Rattle.bc_history.specs.Silent.{silent};
+ghost use Rattle.bc_history.specs.Examples.{two_masters, realistic, on_one_clock, handover, unsubscribed, two_rows, one_port, frame_at, announce_frame, hears_twice, two_masters_heard, worse_heard, summary_after, ending_after, moves_after, at, reports_after, move, order, sent_first, lengths_after, first_sync, first_follow_up, goes_down, fates_after, syncs_alone, responds_twice};
 ghost use Rattle.bc_history.specs.declared.entry.Outcome.TheVariants.{Unlocked, Changed, Superseded, Spent};
 ghost use Rattle.ptp_base.specs.declared.port.PortState.TheVariants.{Listening, Faulty, PreMaster, Master, Passive, Uncalibrated, Slave};
 ghost use Rattle.ptp_profile.specs.declared.port.Fate.TheVariants.{Kept, Paired, Matched, Unmatched};
