@@ -1,15 +1,14 @@
-ghost use Rattle.std.specs.Prelude.{◌≡◌, ◌≢◌, ℕ, suc, ◌+◌, ◌*◌, ◌<◌, ◌≤◌, ◌⊎◌, ◌↔◌, ◌==◌, if◌then◌else◌, ◌++◌, List, [], ◌∷◌, length, take, reverse, replicate, slice_index, slice_get, count_by, filter, Option, Some, None, IsTrue, ℤ, pos};
+ghost use Rattle.std.specs.Prelude.{◌≡◌, ◌≢◌, ℕ, suc, ◌+◌, ◌*◌, ◌<◌, ◌≤◌, ◌⊎◌, ◌↔◌, ◌==◌, if◌then◌else◌, ◌++◌, List, [], ◌∷◌, length, map, take, reverse, replicate, slice_index, slice_get, count_by, filter, Option, Some, None, IsTrue, ℤ, pos};
 ghost use Rattle.ptp_base.specs.declared.identity.PortId.{PortId};
 ghost use Rattle.ptp_base.specs.declared.port.PortState.{PortState};
 ghost use Rattle.ptp_base.specs.declared.port.PortState.TheVariants.{Master, PreMaster, Slave, Uncalibrated};
 ghost use Rattle.ptp_profile.specs.declared.roles.Edge.{Edge};
 ghost use Rattle.ptp_profile.specs.declared.roles.Edge.TheVariants.{Follow, Port};
 ghost use Rattle.ptp_profile.specs.declared.roles.RoleOrder.{RoleOrder};
-ghost use Rattle.ptp_profile.specs.declared.seats.Held.{Held};
 ghost use Rattle.ptp_profile.specs.declared.seats.LogEntry.{LogEntry};
 ghost use Rattle.ptp_profile.specs.declared.seats.LogEntry.TheVariants.{Change, Order};
 ghost use Rattle.ptp_profile.specs.Machine.{is_following};
-ghost use Rattle.ptp_profile.specs.Roles.{are_same_edges, AtMostOneFollows, edge_at, edges_of, is_same_edge, revoke, grant, ctrls_of, orders_of, stamp_of, Stamp, notice_of};
+ghost use Rattle.ptp_profile.specs.Roles.{are_same_edges, AtMostOneFollows, edge_at, edges_of, is_same_edge, revoke, grant, ctrls_of, orders_of, stamp_of, notice_of};
 ghost use Rattle.ptp_profile.specs.Forest.{IsForest, IsPart, ctrls_after};
 ghost use Rattle.ptp_profile.specs.Logs.{clock_after, IsChanged, IsLawful, IsStamped, IsSuperseded, entry_at, log_after, order_entry, stamp_after};
 
@@ -169,6 +168,26 @@ pub fn one_port_takes_over()
     ensures { (m other : PortId)
         → orders_of 2 (edges_of 2 m (Uncalibrated ∷ Master ∷ []) (0 ∷ 1 ∷ [])) (edges_of 2 other (PreMaster ∷ Uncalibrated ∷ []) (0 ∷ 1 ∷ []))
         ≡ record { clock = 0; gener = 2; ctrl = 0 } ∷ record { clock = 1; gener = 2; ctrl = 2 } ∷ [] }
+{}
+
+/// A port that falls back from SLAVE to UNCALIBRATED keeps its clock under its old stamp, and the
+/// other clock is left to nobody.
+pub fn a_port_without_lock_keeps_its_clock()
+    ensures orders { let m : PortId = record { clock = record { id = 0x000a00fffe000001 }; port = 1 } in
+        orders_of 3 (edges_of 2 m (Slave ∷ Master ∷ []) (0 ∷ 1 ∷ [])) (edges_of 2 m (Uncalibrated ∷ Master ∷ []) (0 ∷ 1 ∷ []))
+        ≡ record { clock = 1; gener = 3; ctrl = 0 } ∷ [] }
+    ensures stamps { let orders : List RoleOrder = record { clock = 1; gener = 3; ctrl = 0 } ∷ record { clock = 1; gener = 2; ctrl = 128 }
+        ∷ record { clock = 0; gener = 1; ctrl = 1 } ∷ [] in
+        map (λ clock. stamp_of clock orders) (0 ∷ 1 ∷ 2 ∷ [])
+        ≡ record { gener = 1; ctrl = 1 } ∷ record { gener = 3; ctrl = 0 } ∷ record { gener = 0; ctrl = 0 } ∷ [] }
+{}
+
+/// A new parent of the same port takes the clock and gives it again.
+pub fn a_new_parent_is_a_new_edge()
+    ensures { let m : PortId = record { clock = record { id = 0x000a00fffe000001 }; port = 1 } in
+        let other : PortId = record { clock = record { id = 0x000b00fffe000002 }; port = 1 } in
+        orders_of 2 (edges_of 1 m (Uncalibrated ∷ []) (0 ∷ [])) (edges_of 1 other (Uncalibrated ∷ []) (0 ∷ []))
+        ≡ record { clock = 0; gener = 2; ctrl = 0 } ∷ record { clock = 0; gener = 2; ctrl = 1 } ∷ [] }
 {}
 
 /// A follower that still holds a clock under generation 2 is told that generation 3 is in force.
