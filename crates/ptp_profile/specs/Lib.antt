@@ -6,3 +6,5 @@ pub mod Wire
 pub mod Spelled
 pub mod Servo
 pub mod Sync
+pub mod WireExamples
+pub mod TimingExamples

@@ -1,0 +1,2 @@
+pub mod WireRoundTrip
+pub mod WireFree
