@@ -8,3 +8,11 @@ pub mod Servo
 pub mod Sync
 pub mod WireExamples
 pub mod TimingExamples
+pub mod Machine
+pub mod Timers
+pub mod DataSets
+pub mod Port
+pub mod Frames
+pub mod Roles
+pub mod Forest
+pub mod Logs

@@ -1,0 +1,75 @@
+-- Scenarios and frames of the worked examples.
+use Rattle.std.specs.Prelude.{ℕ, zero, suc, ℤ, pos, List, [], ◌∷◌, ◌++◌, replicate, ◌*◌, Option, Some, None, true, false}
+use Rattle.ptp_base.specs.declared.identity.PortId.{PortId}
+use Rattle.ptp_base.specs.declared.port.PortConf.{PortConf}
+use Rattle.ptp_base.specs.declared.port.PortState.TheVariants.{Listening, Master}
+use Rattle.model_clock.specs.declared.state.ClockState.{ClockState}
+use Rattle.ptp_profile.specs.declared.port.Timer.TheVariants.{AnnounceReceipt}
+use Rattle.ptp_profile.specs.declared.seats.Log.{Log}
+use Rattle.bc_history.specs.declared.entry.Entry.{Entry}
+use Rattle.bc_history.specs.declared.entry.Run.{Run}
+use Rattle.bc_history.specs.declared.entry.Input.TheVariants.{Frame, Timed}
+use Rattle.bc_history.specs.declared.scenario.Options.{Options}
+use Rattle.bc_history.specs.declared.scenario.Scenario.{Scenario}
+
+-- a scenario's options where its text names none
+abbrev pub default_options : Options
+default_options = record {
+  clock_identity = record { id = 0x020000fffe000001 };
+  domain_number = 0;
+  priority1 = 128;
+  priority2 = 128;
+  clock_class = 248;
+  clock_accuracy = 0xFE;
+  offset_scaled_log_variance = 0xFFFF;
+  utc_offset = pos 37;
+  time_flags = 8;
+  time_source = 0xA0;
+  boundary_clock_jbod = false;
+  max_frequency = 900000000;
+  step_threshold = 0;
+  first_step_threshold = 20000;
+  servo_kp = 700;
+  servo_ki = 300;
+  delay_filter_length = 10;
+  duration = 20000000000;
+  window = 125000000;
+  follow_interval = 1000000000;
+  subscribe_duration = 180000000000;
+  subscribe_renew = 60000000000;
+  seat_rows = 65536;
+}
+
+-- a clock that its text says nothing of
+abbrev pub plain_clock : ClockState
+plain_clock = record { tick = 0; time = pos 0; freq = pos 0; drift = pos 0 }
+
+-- a port that its text says nothing of
+abbrev pub plain_port : PortConf
+plain_port = record { clock = 0; log_announce = pos 1; log_sync = pos 0; log_delay = pos 0; receipt = 3 }
+
+-- so many ports that hear nothing, on one clock, for so many seconds
+abbrev pub silent : ℕ → ℕ → Scenario
+silent seconds count = record {
+  options = record default_options { duration = seconds * 1000000000 };
+  clocks = plain_clock ∷ [];
+  ports = replicate count plain_port;
+  records = [];
+  queries = [];
+  turns = [];
+}
+
+-- a port's announce receipt timer at 6 s takes it from LISTENING to MASTER
+abbrev pub becomes_master : ℕ → Entry
+becomes_master p = record {
+  input = Timed p 6000000000 AnnounceReceipt;
+  moment = 6000000000;
+  seen = Some (record { number = 0; value = pos 6000000000; freq = pos 0 });
+  effects = record { fate = None; states = record { port = p; old = Listening; new = Master } ∷ []; parent = None; orders = []; measure = None; frames = []; told = None; asked = None; answers = [] };
+}
+
+abbrev pub quiet_log : Log
+quiet_log = record { clock = 0; opening = plain_clock; entries = [] }
+
+abbrev pub two_masters : Run
+two_masters = record { entries = becomes_master 1 ∷ becomes_master 2 ∷ []; logs = quiet_log ∷ [] }
