@@ -1,6 +1,6 @@
 -- The servo, and what it asks of a clock: all of this is the project's own. Offsets, steps and local times are in ns, frequencies and
 -- drifts in ppb times 65,536. The lists have the newest sample first.
-use Rattle.std.specs.Prelude.{ℕ, ℤ, pos, ◌*◌, ◌+ℤ◌, ◌-ℤ◌, ◌*ℤ◌, neg_ℤ, nat_abs, int_lt, int_le, Bool, true, false, not, ◌==◌, ◌&&◌, ◌||◌, nat_lt, if◌then◌else◌, ⊤, List, [], ◌∷◌, take_while}
+use Rattle.std.specs.Prelude.{ℕ, ℤ, pos, ◌*◌, ◌+ℤ◌, ◌-ℤ◌, ◌*ℤ◌, neg_ℤ, nat_abs, int_lt, Bool, false, not, ◌==◌, ◌&&◌, ◌||◌, nat_lt, if◌then◌else◌, ⊤, List, [], ◌∷◌, take_while}
 use Rattle.ptp_base.specs.Floor.{floor_of}
 use Rattle.model_clock.specs.Clock.{IsWithin}
 use Rattle.ptp_profile.specs.declared.timing.Action.{Action}
@@ -30,7 +30,7 @@ limit conf = conf.max * 65536
 abbrev pub held_within : ℕ → ℤ → ℤ
 held_within most z = if int_lt (pos most) z then pos most else if int_lt z (neg_ℤ (pos most)) then neg_ℤ (pos most) else z
 
--- own: an offset times a gain in thousandths, in ppb times 65,536 for each ns
+-- own: a part of the frequency: a ppb for each ns of the offset, times a gain in thousandths
 abbrev pub part : ℕ → ℤ → ℤ
 part gain offset = floor_of ((pos gain *ℤ offset) *ℤ pos 65536) (pos 1000)
 
@@ -46,6 +46,7 @@ estimates x Fresh = false
 estimates x (Once offset local) = int_lt local x.local
 estimates x Running = false
 
+-- own: where a servo is after a sample
 abbrev pub next_phase : ServoConf → Sample → Phase → Phase
 next_phase conf x Fresh = Once x.offset x.local
 next_phase conf x (Once offset local) = if int_lt local x.local then Running else Fresh
@@ -56,11 +57,11 @@ abbrev pub estimate : ServoConf → Sample → ℤ → ℤ → ℤ → ℤ
 estimate conf x offset local drift =
     held_within (limit conf) (drift +ℤ floor_of ((x.offset -ℤ offset) *ℤ (pos 65536000000000 -ℤ drift)) (x.local -ℤ local))
 
--- own: the frequency before it is held: the drift and both parts of the offset
+-- own: what is counteracted, before it is held: the drift, the proportional part and the integral part
 abbrev pub wanted : ServoConf → Sample → ℤ → ℤ
 wanted conf x drift = (drift +ℤ part conf.kp x.offset) +ℤ part conf.ki x.offset
 
--- own: that frequency passes an end
+-- own: that passes an end
 abbrev pub passes : ServoConf → Sample → ℤ → Bool
 passes conf x drift = nat_lt (limit conf) (nat_abs (wanted conf x drift))
 
@@ -76,10 +77,12 @@ gain conf x Fresh drift = pos 0
 gain conf x (Once offset local) drift = pos 0
 gain conf x Running drift = if is_beyond conf.step x.offset || passes conf x drift then pos 0 else part conf.ki x.offset
 
+-- own: the drift after a sample
 abbrev pub next_drift : ServoConf → Sample → Phase → ℤ → ℤ
 next_drift conf x Fresh drift = drift
 next_drift conf x (Once offset local) drift = if int_lt local x.local then estimate conf x offset local drift else drift
-next_drift conf x Running drift = if is_beyond conf.step x.offset || passes conf x drift then drift else drift +ℤ part conf.ki x.offset
+next_drift conf x Running drift =
+    if is_beyond conf.step x.offset || passes conf x drift then drift else drift +ℤ part conf.ki x.offset
 
 -- own: an offset that is stepped away as an estimate is made: beyond the one threshold, or as the servo first locks beyond the other
 abbrev pub jumps : ServoConf → Sample → Bool → Bool
@@ -89,10 +92,13 @@ jumps conf x locked = (not locked && is_beyond conf.first_step x.offset) || is_b
 abbrev pub first_action : ServoConf → Sample → Bool → ℤ → Action
 first_action conf x locked drift = if jumps conf x locked then Jump (neg_ℤ x.offset) (neg_ℤ drift) else Locked (neg_ℤ drift)
 
+-- own: the action at a sample, by where the servo was before it, whether it had locked, and its drift
 abbrev pub action_at : ServoConf → Sample → Phase → Bool → ℤ → Action
 action_at conf x Fresh locked drift = Unlocked
-action_at conf x (Once offset local) locked drift = if int_lt local x.local then first_action conf x locked (estimate conf x offset local drift) else Unlocked
-action_at conf x Running locked drift = if is_beyond conf.step x.offset then Unlocked else Locked (neg_ℤ (held_within (limit conf) (wanted conf x drift)))
+action_at conf x (Once offset local) locked drift =
+    if int_lt local x.local then first_action conf x locked (estimate conf x offset local drift) else Unlocked
+action_at conf x Running locked drift =
+    if is_beyond conf.step x.offset then Unlocked else Locked (neg_ℤ (held_within (limit conf) (wanted conf x drift)))
 
 -- ---- one run
 
@@ -128,7 +134,8 @@ newer_estimate conf x Running drift former = former
 -- own: the last estimate of a run, and before the first the drift that it began with
 abbrev pub last_estimate : ServoConf → ℤ → List Sample → ℤ
 last_estimate conf freq [] = opening_drift conf freq
-last_estimate conf freq (x ∷ before) = newer_estimate conf x (phase_after conf before) (drift_after conf freq before) (last_estimate conf freq before)
+last_estimate conf freq (x ∷ before) =
+    newer_estimate conf x (phase_after conf before) (drift_after conf freq before) (last_estimate conf freq before)
 
 -- own: the sum of the integral parts since then that weren't held
 abbrev pub gains_since : ServoConf → ℤ → List Sample → ℤ

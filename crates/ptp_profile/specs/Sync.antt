@@ -21,8 +21,10 @@ triple_from origin arrived correction = record { origin = origin; arrived = arri
 
 -- what two pieces of one sequence and of both kinds give, in either order (11.2)
 abbrev pub joined : Piece → Piece → Option Triple
-joined (Sync seq arrived c) (Follow_up other precise d) = if seq == other then Some (triple_from precise arrived (c +ℤ d)) else None
-joined (Follow_up other precise d) (Sync seq arrived c) = if seq == other then Some (triple_from precise arrived (c +ℤ d)) else None
+joined (Sync seq arrived c) (Follow_up other precise d) =
+    if seq == other then Some (triple_from precise arrived (c +ℤ d)) else None
+joined (Follow_up other precise d) (Sync seq arrived c) =
+    if seq == other then Some (triple_from precise arrived (c +ℤ d)) else None
 joined (Sync seq arrived c) (Sync other later d) = None
 joined (Sync seq arrived c) (One_step origin later d) = None
 joined (Follow_up seq precise c) (Follow_up other origin d) = None
@@ -34,9 +36,11 @@ joined (One_step origin arrived c) piece = None
 abbrev pub given : Piece → List Piece → Option Triple
 given (One_step origin arrived c) before = Some (triple_from origin arrived c)
 given (Sync seq arrived c) [] = None
-given (Sync seq arrived c) (former ∷ before) = if is_none (given former before) then joined former (Sync seq arrived c) else None
+given (Sync seq arrived c) (former ∷ before) =
+    if is_none (given former before) then joined former (Sync seq arrived c) else None
 given (Follow_up seq precise c) [] = None
-given (Follow_up seq precise c) (former ∷ before) = if is_none (given former before) then joined former (Follow_up seq precise c) else None
+given (Follow_up seq precise c) (former ∷ before) =
+    if is_none (given former before) then joined former (Follow_up seq precise c) else None
 
 -- the first of two that is there
 abbrev or_else : Option Triple → Option Triple → Option Triple

@@ -33,9 +33,17 @@ example_request = record { seq = 5; sent = pos 200 }
 abbrev pub example_servo : ServoConf
 example_servo = record { kp = 700; ki = 300; max = 1000; step = 0; first_step = 20000 }
 
--- an offset after so many seconds
+-- the same, and any offset beyond 5,000 ns is a step
+abbrev pub stepping_servo : ServoConf
+stepping_servo = record example_servo { step = 5000 }
+
+-- an offset after so many seconds, in a generation that began at a frequency
+abbrev pub sample_in : ℕ → ℤ → ℤ → ℕ → Sample
+sample_in gener freq offset seconds = record { gener = gener; freq = freq; offset = offset; local = pos seconds *ℤ pos 1000000000 }
+
+-- one in a generation that began at no frequency
 abbrev pub sample : ℤ → ℕ → Sample
-sample offset seconds = record { gener = 1; freq = pos 0; offset = offset; local = pos seconds *ℤ pos 1000000000 }
+sample offset seconds = sample_in 1 (pos 0) offset seconds
 
 -- a clock that is 1,000 ppb fast, and what a step back and a frequency against it make of it after a second
 abbrev pub fast_clock : ClockState

@@ -54,6 +54,11 @@ pub fn holds_numbers(m: &Message)
     body_fits(&m.body);
 }
 
+/// What is decoded of octets is the message that they read as, and nothing else.
+pub fn decoded_is_what_is_read()
+    ensures { (domain : ℕ) (b : List ℕ) (m : Message) → (decoded domain b ≡ Ok m) ↔ Reads b domain m }
+{}
+
 /// What reading passes over is free.
 pub fn free_octets()
     ensures { (domain : ℕ) (b c : List ℕ) → SameRead b c → decoded domain b ≡ decoded domain c }
