@@ -106,5 +106,6 @@ impl ClockState {
 
 /// A later tick never reads less, where the clock drifts by at most 10,000,000 ppb.
 pub fn later_reads_no_less()
-    ensures { (s : ClockState) (tick later : ℕ) → IsWithin FREQ_MAX s.freq → IsWithin (pos 655360000000) s.drift → tick ≤ later → reading s tick ≤ℤ reading s later }
+    ensures { (s : ClockState) (tick later : ℕ) → IsWithin FREQ_MAX s.freq → IsWithin (pos 655360000000) s.drift → tick ≤ later
+        → reading s tick ≤ℤ reading s later }
 {}

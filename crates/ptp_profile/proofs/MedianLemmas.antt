@@ -15,12 +15,15 @@ IsPermutation-with_number x (y ∷ ys) = placed (int_le x y) (IsPermutation-cons
   where
     placed : (b : Bool) → IsPermutation (y ∷ x ∷ ys) (y ∷ with_number x ys) → IsPermutation (x ∷ y ∷ ys) (cond b (x ∷ y ∷ ys) (y ∷ with_number x ys))
     placed true behind = IsPermutation-refl (x ∷ y ∷ ys)
-    placed false behind = IsPermutation-trans (x ∷ y ∷ ys) (y ∷ x ∷ ys) (y ∷ with_number x ys) (IsPermutation-sym (y ∷ x ∷ ys) (x ∷ y ∷ ys) (IsPermutation-middle (y ∷ []) x ys)) behind
+    placed false behind =
+        IsPermutation-trans (x ∷ y ∷ ys) (y ∷ x ∷ ys) (y ∷ with_number x ys)
+        (IsPermutation-sym (y ∷ x ∷ ys) (x ∷ y ∷ ys) (IsPermutation-middle (y ∷ []) x ys)) behind
 
 pub IsPermutation-rising : (xs : List ℤ) → IsPermutation xs (rising xs)
 IsPermutation-rising [] = IsPermutation-refl []
 IsPermutation-rising (x ∷ xs) =
-    IsPermutation-trans (x ∷ xs) (x ∷ rising xs) (with_number x (rising xs)) (IsPermutation-cons x xs (rising xs) (IsPermutation-rising xs)) (IsPermutation-with_number x (rising xs))
+    IsPermutation-trans (x ∷ xs) (x ∷ rising xs) (with_number x (rising xs)) (IsPermutation-cons x xs (rising xs) (IsPermutation-rising xs))
+    (IsPermutation-with_number x (rising xs))
 
 abbrev Rises : List ℤ → Type 0
 Rises xs = AllPairs (λ x y. x ≤ℤ y) xs
@@ -43,7 +46,8 @@ Rises-with_number x (y ∷ ys) up = placed (int_le x y) refl (Rises-with_number 
     front le = All-cons (λ z. x ≤ℤ z) y ys le (λ k d h. let far : y ≤ℤ get_or ys k d = first_least y ys up k d h in omega (arith, ints, far, le))
 
     later : y ≤ℤ x → All (λ z. y ≤ℤ z) (with_number x ys)
-    later le = All-permutation (λ z. y ≤ℤ z) (x ∷ ys) (with_number x ys) (IsPermutation-with_number x ys) (All-cons (λ z. y ≤ℤ z) x ys le (first_least y ys up))
+    later le = All-permutation (λ z. y ≤ℤ z) (x ∷ ys) (with_number x ys) (IsPermutation-with_number x ys)
+        (All-cons (λ z. y ≤ℤ z) x ys le (first_least y ys up))
 
     placed : (b : Bool) → int_le x y ≡ b → Rises (with_number x ys) → Rises (cond b (x ∷ y ∷ ys) (y ∷ with_number x ys))
     placed true is rest = AllPairs-cons (λ a b. a ≤ℤ b) x (y ∷ ys) (front (grind (arith, ints))) up

@@ -27,9 +27,12 @@ drift_step conf x Running drift former gains sum = added (is_beyond conf.step x.
     added true i = omega (arith, ints, sum)
     added false i = omega (arith, ints, sum)
 
-pub drift_after-sum : (conf : ServoConf) (freq : ℤ) (samples : List Sample) → drift_after conf freq samples ≡ last_estimate conf freq samples +ℤ gains_since conf freq samples
+pub drift_after-sum : (conf : ServoConf) (freq : ℤ) (samples : List Sample)
+    → drift_after conf freq samples ≡ last_estimate conf freq samples +ℤ gains_since conf freq samples
 drift_after-sum conf freq [] = omega (arith, ints)
-drift_after-sum conf freq (x ∷ before) = drift_step conf x (phase_after conf before) (drift_after conf freq before) (last_estimate conf freq before) (gains_since conf freq before) (drift_after-sum conf freq before)
+drift_after-sum conf freq (x ∷ before) =
+    drift_step conf x (phase_after conf before) (drift_after conf freq before) (last_estimate conf freq before)
+    (gains_since conf freq before) (drift_after-sum conf freq before)
 
 -- ---- the frequency
 
@@ -45,9 +48,11 @@ action_gentle conf x Fresh locked drift = search rules
 action_gentle conf x (Once offset local) locked drift =
     let e : ℤ = estimate conf x offset local drift in
     let few : IsWithin (pos (limit conf)) (neg_ℤ e) = neg-held_within (limit conf) _ in
-    chosen conf (int_lt local x.local) (first_action conf x locked e) Unlocked (chosen conf (jumps conf x locked) (Jump (neg_ℤ x.offset) (neg_ℤ e)) (Locked (neg_ℤ e)) few few) (search rules)
+    chosen conf (int_lt local x.local) (first_action conf x locked e) Unlocked
+    (chosen conf (jumps conf x locked) (Jump (neg_ℤ x.offset) (neg_ℤ e)) (Locked (neg_ℤ e)) few few) (search rules)
 action_gentle conf x Running locked drift =
-    chosen conf (is_beyond conf.step x.offset) Unlocked (Locked (neg_ℤ (held_within (limit conf) (wanted conf x drift)))) (search rules) (neg-held_within (limit conf) (wanted conf x drift))
+    chosen conf (is_beyond conf.step x.offset) Unlocked (Locked (neg_ℤ (held_within (limit conf) (wanted conf x drift)))) (search rules)
+    (neg-held_within (limit conf) (wanted conf x drift))
 
 pub newest_gentle : (conf : ServoConf) (samples : List Sample) → IsGentle conf (newest_action conf samples)
 newest_gentle conf [] = search rules
@@ -59,7 +64,8 @@ length-steer conf (x ∷ before) = ap suc (length-steer conf before)
 
 pub All-steer : (conf : ServoConf) (samples : List Sample) → All (IsGentle conf) (steer conf samples)
 All-steer conf [] = search rules
-All-steer conf (x ∷ before) = All-cons (IsGentle conf) (newest_action conf (x ∷ before)) (steer conf before) (newest_gentle conf (x ∷ before)) (All-steer conf before)
+All-steer conf (x ∷ before) =
+    All-cons (IsGentle conf) (newest_action conf (x ∷ before)) (steer conf before) (newest_gentle conf (x ∷ before)) (All-steer conf before)
 
 -- ---- a new generation
 

@@ -21,7 +21,8 @@ big_same j (suc n) xs ys h =
 
 pub number_same : (i n : ℕ) (b c : List ℕ) → ((k : ℕ) → i ≤ k → k < i + n → slice_index b k ≡ slice_index c k) → number_at i n b ≡ number_at i n c
 unfolding number_at
-number_same i n b c h = big_same 0 n (drop i b) (drop i c) (λ k lo hi. get_or-drop i b k 0 ∙ h (i + k) (omega arith) (omega arith) ∙ sym (get_or-drop i c k 0))
+number_same i n b c h =
+    big_same 0 n (drop i b) (drop i c) (λ k lo hi. get_or-drop i b k 0 ∙ h (i + k) (omega arith) (omega arith) ∙ sym (get_or-drop i c k 0))
 
 in_body : (k i : ℕ) → 33 ≤ i → i < length_of k → ((k ≡ 11) → i ≢ 46) → IsRead k i
 in_body k i lo hi gap = inr (inr (inr (inr (lo, hi, gap))))
@@ -38,14 +39,16 @@ time_same k b c long h =
 
 port_same : (b c : List ℕ) → Agree 9 b c → port_at 44 b ≡ port_at 44 c
 port_same b c h =
-    let here : (i : ℕ) → 44 ≤ i → i < 54 → slice_index b i ≡ slice_index c i = λ i lo hi. h i (in_body 9 i (omega arith) hi (λ e. absurd (omega (arith, e)))) in
+    let here : (i : ℕ) → 44 ≤ i → i < 54
+    → slice_index b i ≡ slice_index c i = λ i lo hi. h i (in_body 9 i (omega arith) hi (λ e. absurd (omega (arith, e)))) in
     let clock = number_same 44 8 b c (λ i lo hi. here i (omega arith) (omega arith)) in
     let port = number_same 52 2 b c (λ i lo hi. here i (omega arith) (omega arith)) in
     λ i. record { clock = record { id = clock i }; port = port i }
 
 said_same : (b c : List ℕ) → Agree 11 b c → said_at b ≡ said_at c
 said_same b c h =
-    let here : (i : ℕ) → 44 ≤ i → i < 64 → i ≢ 46 → slice_index b i ≡ slice_index c i = λ i lo hi off. h i (in_body 11 i (omega arith) hi (λ e. off)) in
+    let here : (i : ℕ) → 44 ≤ i → i < 64 → i ≢ 46
+    → slice_index b i ≡ slice_index c i = λ i lo hi off. h i (in_body 11 i (omega arith) hi (λ e. off)) in
     let grandmaster = number_same 53 8 b c (λ i lo hi. here i (omega arith) (omega arith) (λ at. absurd (omega arith))) in
     let variance = number_same 50 2 b c (λ i lo hi. here i (omega arith) (omega arith) (λ at. absurd (omega arith))) in
     let steps = number_same 61 2 b c (λ i lo hi. here i (omega arith) (omega arith) (λ at. absurd (omega arith))) in
@@ -81,16 +84,20 @@ body_same k b c known h =
 -- the first fault, by what the tests look at
 abbrev chain : ℕ → ℕ → ℕ → ℕ → ℕ → ℕ → ℕ → ℕ → Option Reject
 chain domain long version fourth zeroth said nanos seconds =
-    cond (nat_lt long 34) (Some Short) (cond (not (version == 2)) (Some Version) (cond (not (fourth == domain) || not (zeroth / 16 == 0)) (Some Domain)
+    cond (nat_lt long 34) (Some Short)
+    (cond (not (version == 2)) (Some Version) (cond (not (fourth == domain) || not (zeroth / 16 == 0)) (Some Domain)
     (cond (length_of (zeroth % 16) == 0) (Some Type_) (cond (nat_lt long said || nat_lt said (length_of (zeroth % 16))) (Some Length)
     (cond (nat_le 1000000000 nanos) (Some Nanos) (cond (nat_le (2 ^ 33) seconds) (Some TimeRange) None))))))
 
-is_chain : (domain : ℕ) (b : List ℕ) → first_fault domain b ≡ chain domain (length b) (slice_index b 1 % 16) (slice_index b 4) (slice_index b 0) (number_at 2 2 b) (number_at 40 4 b) (number_at 34 6 b)
+is_chain : (domain : ℕ) (b : List ℕ)
+    → first_fault domain b ≡ chain domain (length b) (slice_index b 1 % 16) (slice_index b 4) (slice_index b 0) (number_at 2 2 b)
+    (number_at 40 4 b) (number_at 34 6 b)
 is_chain domain b = refl
 
 -- a type that is unknown is refused, whatever stands behind it
 unknown : (p q r t : Bool) (m n : Message) (x y : Option Reject) → t ≡ true
-    → answer m (cond p (Some Short) (cond q (Some Version) (cond r (Some Domain) (cond t (Some Type_) x)))) ≡ answer n (cond p (Some Short) (cond q (Some Version) (cond r (Some Domain) (cond t (Some Type_) y))))
+    → answer m (cond p (Some Short) (cond q (Some Version) (cond r (Some Domain) (cond t (Some Type_) x)))) ≡ answer n
+    (cond p (Some Short) (cond q (Some Version) (cond r (Some Domain) (cond t (Some Type_) y))))
 unknown true q r t m n x y e = refl
 unknown false true r t m n x y e = refl
 unknown false false true t m n x y e = refl
@@ -105,13 +112,17 @@ decoded_same domain b c s =
     elim (cases_eq (length_of (kind_at b)) 0) [
       | inl none ↦
           let test : (length_of (kind_at b) == 0) ≡ true = eq-eqb _ _ none in
-          let front : decoded domain b ≡ answer (message_at b) (chain domain (length c) (slice_index c 1 % 16) (slice_index c 4) (slice_index c 0) (number_at 2 2 c) (number_at 40 4 b) (number_at 34 6 b)) =
+          let front : decoded domain b ≡ answer (message_at b)
+          (chain domain (length c) (slice_index c 1 % 16) (slice_index c 4) (slice_index c 0) (number_at 2 2 c) (number_at 40 4 b)
+          (number_at 34 6 b)) =
           λ i. answer (message_at b) (chain domain (s.long i) (s.version i) (fourth i) (zeroth i) (said i) (number_at 40 4 b) (number_at 34 6 b)) in
           front ∙ unknown _ _ _ _ (message_at b) (message_at c) _ _ (ap (λ k. length_of k == 0) (sym kind) ∙ test)
       | inr some ↦
           let long : 44 ≤ length_of (kind_at b) = known_long (kind_at b) some in
           let body : body_at (kind_at b) b ≡ body_at (kind_at c) c = body_same (kind_at b) b c some s.others ∙ ap (λ k. body_at k c) kind in
-          let behind : (i : ℕ) → 33 ≤ i → i < 44 → slice_index b i ≡ slice_index c i = λ i lo hi. s.others i (in_body (kind_at b) i lo (omega arith) (λ e. λ at. absurd (omega arith))) in
+          let behind : (i : ℕ) → 33 ≤ i → i < 44
+          → slice_index b i ≡ slice_index c i =
+          λ i lo hi. s.others i (in_body (kind_at b) i lo (omega arith) (λ e. λ at. absurd (omega arith))) in
           let nanos : number_at 40 4 b ≡ number_at 40 4 c = number_same 40 4 b c (λ i lo hi. behind i (omega arith) (omega arith)) in
           let seconds : number_at 34 6 b ≡ number_at 34 6 c = number_same 34 6 b c (λ i lo hi. behind i (omega arith) (omega arith)) in
           let sender : (i : ℕ) → 20 ≤ i → i < 32 → slice_index b i ≡ slice_index c i = λ i lo hi. s.others i (inr (inr (inr (inl (lo, hi))))) in

@@ -19,7 +19,9 @@ record AllFalse (p q r s t u v : Bool) : Type 0 where
 
 abbrev chosen : Bool → Bool → Bool → Bool → Bool → Bool → Bool → Option Reject
 chosen p q r s t u v =
-    cond p (Some Short) (cond q (Some Version) (cond r (Some Domain) (cond s (Some Type_) (cond t (Some Length) (cond u (Some Nanos) (cond v (Some TimeRange) None))))))
+    cond p (Some Short)
+    (cond q (Some Version)
+    (cond r (Some Domain) (cond s (Some Type_) (cond t (Some Length) (cond u (Some Nanos) (cond v (Some TimeRange) None))))))
 
 all_false : (p q r s t u v : Bool) → chosen p q r s t u v ≡ None → AllFalse p q r s t u v
 all_false true q r s t u v e = cc
@@ -29,7 +31,8 @@ all_false false false false true t u v e = cc
 all_false false false false false true u v e = cc
 all_false false false false false false true v e = cc
 all_false false false false false false false true e = cc
-all_false false false false false false false false e = record { long = refl; version = refl; domain = refl; kind = refl; whole = refl; nanos = refl; seconds = refl }
+all_false false false false false false false false e =
+    record { long = refl; version = refl; domain = refl; kind = refl; whole = refl; nanos = refl; seconds = refl }
 
 none_chosen : (p q r s t u v : Bool) → AllFalse p q r s t u v → chosen p q r s t u v ≡ None
 none_chosen p q r s t u v f = λ i. chosen (f.long i) (f.version i) (f.domain i) (f.kind i) (f.whole i) (f.nanos i) (f.seconds i)
@@ -40,8 +43,11 @@ answer_ok m n (Some fault) e = cc
 
 faultless : (domain : ℕ) (b : List ℕ) → first_fault domain b ≡ None → IsFaultless domain b
 faultless domain b e =
-    let f = all_false (nat_lt (length b) 34) (not (slice_index b 1 % 16 == 2)) (not (slice_index b 4 == domain) || not (slice_index b 0 / 16 == 0)) (length_of (kind_at b) == 0)
-    (nat_lt (length b) (number_at 2 2 b) || nat_lt (number_at 2 2 b) (length_of (kind_at b))) (nat_le 1000000000 (number_at 40 4 b)) (nat_le (2 ^ 33) (number_at 34 6 b)) e in
+    let f =
+    all_false (nat_lt (length b) 34) (not (slice_index b 1 % 16 == 2))
+    (not (slice_index b 4 == domain) || not (slice_index b 0 / 16 == 0)) (length_of (kind_at b) == 0)
+    (nat_lt (length b) (number_at 2 2 b) || nat_lt (number_at 2 2 b) (length_of (kind_at b)))
+    (nat_le 1000000000 (number_at 40 4 b)) (nat_le (2 ^ 33) (number_at 34 6 b)) e in
     record {
       long = long (length b) f.long;
       version = same _ _ f.version;
@@ -74,8 +80,10 @@ faultless domain b e =
 
 no_fault : (domain : ℕ) (b : List ℕ) → IsFaultless domain b → first_fault domain b ≡ None
 no_fault domain b f =
-    none_chosen (nat_lt (length b) 34) (not (slice_index b 1 % 16 == 2)) (not (slice_index b 4 == domain) || not (slice_index b 0 / 16 == 0)) (length_of (kind_at b) == 0)
-    (nat_lt (length b) (number_at 2 2 b) || nat_lt (number_at 2 2 b) (length_of (kind_at b))) (nat_le 1000000000 (number_at 40 4 b)) (nat_le (2 ^ 33) (number_at 34 6 b))
+    none_chosen (nat_lt (length b) 34) (not (slice_index b 1 % 16 == 2))
+    (not (slice_index b 4 == domain) || not (slice_index b 0 / 16 == 0)) (length_of (kind_at b) == 0)
+    (nat_lt (length b) (number_at 2 2 b) || nat_lt (number_at 2 2 b) (length_of (kind_at b)))
+    (nat_le 1000000000 (number_at 40 4 b)) (nat_le (2 ^ 33) (number_at 34 6 b))
     (record {
       long = long (length b) f.long;
       version = same _ _ f.version;

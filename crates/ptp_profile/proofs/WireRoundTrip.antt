@@ -35,13 +35,18 @@ pub record HeadReads (h : Head) (t : List ℕ) : Type 0 where
   pub seq : number_at 30 2 (header_octets h ++ t) ≡ h.seq
   pub log_interval : cast_signed w8 (slice_index (header_octets h ++ t) 33) ≡ h.log_interval
 
-pub head_reads : (h : Head) (t : List ℕ) → h.length < 2 ^ 16 → h.flags < 2 ^ 16 → FitsSigned w64 h.correction → FitsPort h.sender → h.seq < 2 ^ 16 → FitsSigned w8 h.log_interval → HeadReads h t
+pub head_reads : (h : Head) (t : List ℕ) → h.length < 2 ^ 16 → h.flags < 2 ^ 16 → FitsSigned w64 h.correction → FitsPort h.sender
+    → h.seq < 2 ^ 16 → FitsSigned w8 h.log_interval → HeadReads h t
 unfolding number_at
 head_reads h t len flags correction sender seq log = record {
   length_is = big_number-reads_back 2 h.length [] len;
   flags = big_number-reads_back 2 h.flags [] flags;
-  correction = ap (cast_signed w64) (big_number-reads_back 8 (cast_unsigned w64 h.correction) [] (below64 h.correction correction)) ∙ to_z-of_z w64 h.correction correction;
-  sender = λ i. record { clock = record { id = big_number-reads_back 8 h.sender.clock.id [] sender.clock i }; port = big_number-reads_back 2 h.sender.port [] sender.port i };
+  correction = ap (cast_signed w64) (big_number-reads_back 8 (cast_unsigned w64 h.correction) [] (below64 h.correction correction))
+      ∙ to_z-of_z w64 h.correction correction;
+  sender = λ i. record {
+    clock = record { id = big_number-reads_back 8 h.sender.clock.id [] sender.clock i };
+    port = big_number-reads_back 2 h.sender.port [] sender.port i;
+  };
   seq = big_number-reads_back 2 h.seq [] seq;
   log_interval = to_z-of_z w8 h.log_interval log;
 }
@@ -67,23 +72,35 @@ pos_abs : (z : ℤ) → pos 0 ≤ℤ z → pos (unsigned_abs z) ≡ z
 pos_abs (pos n) early = refl
 pos_abs (negsuc n) early = absurd (omega (arith, ints))
 
-time_is : (h : Head) (z : ℤ) (t : List ℕ) → pos 0 ≤ℤ z → z ≤ℤ pos 8589934591999999999 → time_at (header_octets h ++ (time_octets (unsigned_abs z) ++ t)) ≡ z
+time_is : (h : Head) (z : ℤ) (t : List ℕ) → pos 0 ≤ℤ z → z ≤ℤ pos 8589934591999999999
+    → time_at (header_octets h ++ (time_octets (unsigned_abs z) ++ t)) ≡ z
 time_is h z t early late =
     let r = time_reads h (unsigned_abs z) t (late_nat z early late) in
-    let whole : number_at 34 6 (header_octets h ++ (time_octets (unsigned_abs z) ++ t)) * 1000000000 + number_at 40 4 (header_octets h ++ (time_octets (unsigned_abs z) ++ t)) ≡ unsigned_abs z = omega (arith, r.seconds, r.nanos) in
+    let whole : number_at 34 6 (header_octets h ++ (time_octets (unsigned_abs z) ++ t)) * 1000000000 + number_at 40 4
+    (header_octets h ++ (time_octets (unsigned_abs z) ++ t)) ≡ unsigned_abs z = omega (arith, r.seconds, r.nanos) in
     ap pos whole ∙ pos_abs z early
 
 port_is : (h : Head) (ns : ℕ) (p : PortId) (t : List ℕ) → FitsPort p → port_at 44 (header_octets h ++ ((time_octets ns ++ port_octets p) ++ t)) ≡ p
 unfolding number_at
-port_is h ns p t fits = λ i. record { clock = record { id = big_number-reads_back 8 p.clock.id [] fits.clock i }; port = big_number-reads_back 2 p.port [] fits.port i }
+port_is h ns p t fits =
+    λ i. record { clock = record { id = big_number-reads_back 8 p.clock.id [] fits.clock i }; port = big_number-reads_back 2 p.port [] fits.port i }
 
 said_is : (h : Head) (ns : ℕ) (s : Said) (t : List ℕ) → FitsSaid s → said_at (header_octets h ++ ((time_octets ns ++ said_octets s) ++ t)) ≡ s
 unfolding number_at
 said_is h ns s t fits =
-    let offset : cast_signed w16 (number_at 44 2 (header_octets h ++ ((time_octets ns ++ said_octets s) ++ t))) ≡ s.utc_offset = ap (cast_signed w16) (big_number-reads_back 2 (cast_unsigned w16 s.utc_offset) [] (below16 s.utc_offset fits.utc_offset)) ∙ to_z-of_z w16 s.utc_offset fits.utc_offset in
+    let offset : cast_signed w16 (number_at 44 2 (header_octets h ++ ((time_octets ns ++ said_octets s) ++ t))) ≡ s.utc_offset =
+    ap (cast_signed w16) (big_number-reads_back 2 (cast_unsigned w16 s.utc_offset) [] (below16 s.utc_offset fits.utc_offset))
+    ∙ to_z-of_z w16 s.utc_offset fits.utc_offset in
     λ i. record {
       grandmaster = record { id = big_number-reads_back 8 s.grandmaster.id [] fits.grandmaster i };
-      quality = record { priority1 = s.quality.priority1; class = s.quality.class; accuracy = s.quality.accuracy; variance = big_number-reads_back 2 s.quality.variance [] fits.variance i; priority2 = s.quality.priority2 };
+      quality = record {
+        priority1 = s.quality.priority1;
+        class = s.quality.class;
+        accuracy = s.quality.accuracy;
+        variance =
+            big_number-reads_back 2 s.quality.variance [] fits.variance i;
+        priority2 = s.quality.priority2;
+      };
       steps = big_number-reads_back 2 s.steps [] fits.steps i;
       utc_offset = offset i;
       source = s.source;
@@ -111,15 +128,57 @@ pub record BodyPasses (h : Head) (body : Body) (t : List ℕ) : Type 0 where
 
 body_passes : (h : Head) (body : Body) (t : List ℕ) → pos 0 ≤ℤ time_in body → time_in body ≤ℤ pos 8589934591999999999 → BodyPasses h body t
 body_passes h (Sync origin) t early late = let late_n = late_nat origin early late in let r = time_reads h (unsigned_abs origin) t late_n in
-    record { kind = λ e. absurd (omega (arith, e)); long = refl; same = refl; below = lit< tt; nanos = rw r.nanos (omega arith); seconds = rw r.seconds (omega arith) }
+    record {
+      kind = λ e. absurd (omega (arith, e));
+      long = refl;
+      same = refl;
+      below = lit< tt;
+      nanos = rw r.nanos (omega arith);
+      seconds =
+          rw r.seconds (omega arith);
+    }
 body_passes h (DelayReq origin) t early late = let late_n = late_nat origin early late in let r = time_reads h (unsigned_abs origin) t late_n in
-    record { kind = λ e. absurd (omega (arith, e)); long = refl; same = refl; below = lit< tt; nanos = rw r.nanos (omega arith); seconds = rw r.seconds (omega arith) }
+    record {
+      kind = λ e. absurd (omega (arith, e));
+      long = refl;
+      same = refl;
+      below = lit< tt;
+      nanos = rw r.nanos (omega arith);
+      seconds =
+          rw r.seconds (omega arith);
+    }
 body_passes h (FollowUp precise) t early late = let late_n = late_nat precise early late in let r = time_reads h (unsigned_abs precise) t late_n in
-    record { kind = λ e. absurd (omega (arith, e)); long = refl; same = refl; below = lit< tt; nanos = rw r.nanos (omega arith); seconds = rw r.seconds (omega arith) }
-body_passes h (DelayResp receive requesting) t early late = let late_n = late_nat receive early late in let r = time_reads h (unsigned_abs receive) (port_octets requesting ++ t) late_n in
-    record { kind = λ e. absurd (omega (arith, e)); long = refl; same = refl; below = lit< tt; nanos = rw r.nanos (omega arith); seconds = rw r.seconds (omega arith) }
-body_passes h (Announce origin said) t early late = let late_n = late_nat origin early late in let r = time_reads h (unsigned_abs origin) (said_octets said ++ t) late_n in
-    record { kind = λ e. absurd (omega (arith, e)); long = refl; same = refl; below = lit< tt; nanos = rw r.nanos (omega arith); seconds = rw r.seconds (omega arith) }
+    record {
+      kind = λ e. absurd (omega (arith, e));
+      long = refl;
+      same = refl;
+      below = lit< tt;
+      nanos = rw r.nanos (omega arith);
+      seconds =
+          rw r.seconds (omega arith);
+    }
+body_passes h (DelayResp receive requesting) t early late = let late_n = late_nat receive early late in let r =
+    time_reads h (unsigned_abs receive) (port_octets requesting ++ t) late_n in
+    record {
+      kind = λ e. absurd (omega (arith, e));
+      long = refl;
+      same = refl;
+      below = lit< tt;
+      nanos = rw r.nanos (omega arith);
+      seconds =
+          rw r.seconds (omega arith);
+    }
+body_passes h (Announce origin said) t early late = let late_n = late_nat origin early late in let r =
+    time_reads h (unsigned_abs origin) (said_octets said ++ t) late_n in
+    record {
+      kind = λ e. absurd (omega (arith, e));
+      long = refl;
+      same = refl;
+      below = lit< tt;
+      nanos = rw r.nanos (omega arith);
+      seconds =
+          rw r.seconds (omega arith);
+    }
 
 -- ---- the whole message
 
@@ -131,9 +190,12 @@ reads_again m t fits =
     let late = fits.spelled.late in
     let p = body_passes h m.body t early late in
     let r = head_reads h (body_octets m.body ++ t) p.below fits.flags fits.correction fits.sender fits.seq fits.log_interval in
-    let flags : bit_and (number_at 6 2 (header_octets h ++ (body_octets m.body ++ t))) 0x073F ≡ m.flags = ap (λ n. bit_and n 0x073F) r.flags ∙ fits.spelled.flags in
-    let body : body_at (kind_number m.body % 16) (header_octets h ++ (body_octets m.body ++ t)) ≡ m.body = body_is h m.body t fits.body_fits early late in
-    let long : length (header_octets h ++ (body_octets m.body ++ t)) ≡ 34 + (length (body_octets m.body) + length t) = length-append (header_octets h) (body_octets m.body ++ t) ∙ ap (λ n. 34 + n) (length-append (body_octets m.body) t) in
+    let flags : bit_and (number_at 6 2 (header_octets h ++ (body_octets m.body ++ t))) 0x073F ≡ m.flags = ap (λ n. bit_and n 0x073F) r.flags
+    ∙ fits.spelled.flags in
+    let body : body_at (kind_number m.body % 16) (header_octets h ++ (body_octets m.body ++ t)) ≡ m.body =
+    body_is h m.body t fits.body_fits early late in
+    let long : length (header_octets h ++ (body_octets m.body ++ t)) ≡ 34 + (length (body_octets m.body) + length t) =
+    length-append (header_octets h) (body_octets m.body ++ t) ∙ ap (λ n. 34 + n) (length-append (body_octets m.body) t) in
     record {
       faultless = record {
         long = omega (arith, long);
@@ -146,7 +208,16 @@ reads_again m t fits =
         nanos = p.nanos;
         seconds = p.seconds;
       };
-      fields = sym (λ i. record { domain = m.domain; flags = flags i; correction = r.correction i; sender = r.sender i; seq = r.seq i; log_interval = r.log_interval i; body = body i });
+      fields = sym (λ i. record {
+        domain = m.domain;
+        flags = flags i;
+        correction = r.correction i;
+        sender = r.sender i;
+        seq =
+            r.seq i;
+        log_interval = r.log_interval i;
+        body = body i;
+      });
     }
   where
     standard_of : (body : Body) → kind_number body / 16 ≡ 0

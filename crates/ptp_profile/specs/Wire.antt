@@ -55,7 +55,13 @@ time_at b = pos (number_at 34 6 b * 1000000000 + number_at 40 4 b)
 abbrev pub said_at : List ℕ → Said
 said_at b = record {
   grandmaster = record { id = number_at 53 8 b };
-  quality = record { priority1 = slice_index b 47; class = slice_index b 48; accuracy = slice_index b 49; variance = number_at 50 2 b; priority2 = slice_index b 52 };
+  quality = record {
+    priority1 = slice_index b 47;
+    class = slice_index b 48;
+    accuracy = slice_index b 49;
+    variance = number_at 50 2 b;
+    priority2 = slice_index b 52;
+  };
   steps = number_at 61 2 b;
   utc_offset = cast_signed w16 (number_at 44 2 b);
   source = slice_index b 63;

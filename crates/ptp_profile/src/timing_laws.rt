@@ -19,8 +19,11 @@ pub fn steering_is_gentle()
 /// The drift of a run is its last estimate, and the integral parts since then that weren't held;
 /// before the first estimate it is the drift that the run began with. A held sample leaves it.
 pub fn drift_is_estimated()
-    ensures sum { (conf : ServoConf) (freq : ℤ) (samples : List Sample) → drift_after conf freq samples ≡ last_estimate conf freq samples +ℤ gains_since conf freq samples }
-    ensures held { (conf : ServoConf) (freq : ℤ) (x : Sample) (before : List Sample) → IsTrue (is_held conf x (phase_after conf before) (drift_after conf freq before)) → drift_after conf freq (x ∷ before) ≡ drift_after conf freq before }
+    ensures sum { (conf : ServoConf) (freq : ℤ) (samples : List Sample)
+        → drift_after conf freq samples ≡ last_estimate conf freq samples +ℤ gains_since conf freq samples }
+    ensures held { (conf : ServoConf) (freq : ℤ) (x : Sample) (before : List Sample)
+        → IsTrue (is_held conf x (phase_after conf before) (drift_after conf freq before))
+        → drift_after conf freq (x ∷ before) ≡ drift_after conf freq before }
 {}
 
 /// The numbers of which a median is the middle are the given ones, in rising order.
@@ -65,7 +68,8 @@ pub fn examples_are_measured()
 /// A servo that locks, meets its limit, holds the integral and comes back; and one that is just
 /// not, and one that is just far enough to step. The newest samples and actions come first.
 pub fn examples_are_steered()
-    ensures limited { steer example_servo (sample (pos 0) 5 ∷ sample (pos 1000) 4 ∷ sample (pos 1000) 3 ∷ sample (pos 100) 2 ∷ sample (pos 100) 1 ∷ [])
+    ensures limited { steer example_servo
+        (sample (pos 0) 5 ∷ sample (pos 1000) 4 ∷ sample (pos 1000) 3 ∷ sample (pos 100) 2 ∷ sample (pos 100) 1 ∷ [])
         ≡ Locked (neg_ℤ (pos 19660800)) ∷ Locked (neg_ℤ (pos 65536000)) ∷ Locked (neg_ℤ (pos 65536000)) ∷ Locked (pos 0) ∷ Unlocked ∷ [] }
     ensures near { steer example_servo (sample (pos 20000) 2 ∷ sample (pos 20000) 1 ∷ []) ≡ Locked (pos 0) ∷ Unlocked ∷ [] }
     ensures far { steer example_servo (sample (pos 20001) 2 ∷ sample (pos 20001) 1 ∷ []) ≡ Jump (neg_ℤ (pos 20001)) (pos 0) ∷ Unlocked ∷ [] }
@@ -74,7 +78,9 @@ pub fn examples_are_steered()
 /// A servo that runs, is stepped off, waits for a later local time, and steps as it locks again; and
 /// one that begins anew with a generation, at the frequency of the generation's first sample.
 pub fn examples_are_steered_anew()
-    ensures stepped { steer stepping_servo (sample (pos 6000) 6 ∷ sample (pos 6000) 5 ∷ sample (pos 6000) 4 ∷ sample (pos 6000) 4 ∷ sample (pos 6000) 3 ∷ sample (pos 0) 2 ∷ sample (pos 0) 1 ∷ [])
+    ensures stepped { steer stepping_servo
+        (sample (pos 6000) 6 ∷ sample (pos 6000) 5 ∷ sample (pos 6000) 4 ∷ sample (pos 6000) 4 ∷ sample (pos 6000) 3 ∷ sample
+        (pos 0) 2 ∷ sample (pos 0) 1 ∷ [])
         ≡ Jump (neg_ℤ (pos 6000)) (pos 0) ∷ Unlocked ∷ Unlocked ∷ Unlocked ∷ Unlocked ∷ Locked (pos 0) ∷ Unlocked ∷ [] }
     ensures generations { let opened = neg_ℤ (pos 6553600) in
         steer example_servo (sample_in 2 (pos 5) (pos 100) 4 ∷ sample_in 2 opened (pos 0) 3 ∷ sample (pos 100) 2 ∷ sample (pos 0) 1 ∷ [])
