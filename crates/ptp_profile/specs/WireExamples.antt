@@ -1,8 +1,8 @@
--- Worked examples of messages: an Announce, a Sync and a Delay_Resp of one master, octet by octet.
-use Rattle.std.specs.Prelude.{ℕ, pos, List, [], ◌∷◌}
+-- Worked examples of messages: an Announce, a Sync and a Delay_Resp of one master, and a Follow_Up, octet by octet.
+use Rattle.std.specs.Prelude.{ℕ, pos, negsuc, List, [], ◌∷◌}
 use Rattle.ptp_base.specs.declared.identity.PortId.{PortId}
 use Rattle.ptp_profile.specs.declared.message.Message.{Message}
-use Rattle.ptp_profile.specs.declared.message.Body.TheVariants.{Sync, DelayResp, Announce}
+use Rattle.ptp_profile.specs.declared.message.Body.TheVariants.{Sync, FollowUp, DelayResp, Announce}
 
 -- the master's port, and the port that it answers
 abbrev pub master_port : PortId
@@ -71,4 +71,22 @@ delay_resp = record {
   seq = 0;
   log_interval = pos 0;
   body = DelayResp (pos 4000051000) asking_port;
+}
+
+-- a Follow_Up of 2 s and 7 ns in which no field of the header is 0
+abbrev pub follow_up_octets : List ℕ
+follow_up_octets =
+    0x08 ∷ 0x12 ∷ 0x00 ∷ 0x2c ∷ 0x05 ∷ 0x00 ∷ 0x02 ∷ 0x08 ∷ 0xff ∷ 0xff ∷ 0xff ∷ 0xff ∷ 0xff ∷ 0xff ∷ 0xff ∷ 0xfe
+    ∷ 0x00 ∷ 0x00 ∷ 0x00 ∷ 0x00 ∷ 0x00 ∷ 0x0a ∷ 0x00 ∷ 0xff ∷ 0xfe ∷ 0x00 ∷ 0x00 ∷ 0x01 ∷ 0x01 ∷ 0x02 ∷ 0x03 ∷ 0x04
+    ∷ 0x02 ∷ 0xfd ∷ 0x00 ∷ 0x00 ∷ 0x00 ∷ 0x00 ∷ 0x00 ∷ 0x02 ∷ 0x00 ∷ 0x00 ∷ 0x00 ∷ 0x07 ∷ []
+
+abbrev pub follow_up : Message
+follow_up = record {
+  domain = 5;
+  flags = 0x0208;
+  correction = negsuc 1;
+  sender = record { clock = record { id = 0x000a_00ff_fe00_0001 }; port = 0x0102 };
+  seq = 0x0304;
+  log_interval = negsuc 2;
+  body = FollowUp (pos 2000000007);
 }

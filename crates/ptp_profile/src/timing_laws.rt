@@ -4,7 +4,7 @@ ghost use Rattle.ptp_base.specs.Floor.{floor_of, ns_of};
 ghost use Rattle.model_clock.specs.Clock.{reading, changed};
 ghost use Rattle.ptp_profile.specs.declared.timing.Action.TheVariants.{Unlocked, Jump, Locked};
 ghost use Rattle.ptp_profile.specs.declared.timing.ServoConf.{ServoConf};
-ghost use Rattle.ptp_profile.specs.Sync.{Piece, One_step, given, answered, delay_sum, delay_of, offset_of, rising, median, triple_from};
+ghost use Rattle.ptp_profile.specs.Sync.{Piece, One_step, given, answered, delay_sum, delay_of, offset_of, measure_of, mean_of, rising, median, triple_from, last_triple, with_delay};
 ghost use Rattle.ptp_profile.specs.Servo.{Sample, steer, newest_action, IsGentle, is_held, phase_after, drift_after, last_estimate, gains_since};
 ghost use Rattle.ptp_profile.specs.TimingExamples.{sync, follow_up, example_triple, own_port, other_port, example_request, example_servo, stepping_servo, sample, sample_in, fast_clock, tuned_clock};
 
@@ -37,9 +37,11 @@ pub fn median_is_of_all()
 pub fn examples_are_paired()
     ensures first_alone { given (follow_up 7) [] ≡ None }
     ensures first_paired { given (sync 7) (follow_up 7 ∷ []) ≡ Some example_triple }
+    ensures seventh_used { given (follow_up 7) (sync 7 ∷ follow_up 7 ∷ []) ≡ None }
     ensures eighth_alone { given (sync 8) (sync 7 ∷ follow_up 7 ∷ []) ≡ None }
     ensures ninth_alone { given (sync 9) (sync 8 ∷ sync 7 ∷ follow_up 7 ∷ []) ≡ None }
     ensures eighth_lost { given (follow_up 8) (sync 9 ∷ sync 8 ∷ sync 7 ∷ follow_up 7 ∷ []) ≡ None }
+    ensures seventh_last { last_triple (follow_up 8 ∷ sync 9 ∷ sync 8 ∷ sync 7 ∷ follow_up 7 ∷ []) ≡ Some example_triple }
     ensures tenth_alone { given (sync 10) [] ≡ None }
     ensures tenth_paired { given (follow_up 10) (sync 10 ∷ []) ≡ Some example_triple }
     ensures tenth_once { given (follow_up 10) (follow_up 10 ∷ sync 10 ∷ []) ≡ None }
@@ -52,17 +54,24 @@ pub fn examples_are_answered()
     ensures other_port { answered own_port 5 other_port (Some example_request) ≡ None }
     ensures own { answered own_port 5 own_port (Some example_request) ≡ Some example_request }
     ensures again { answered own_port 5 own_port None ≡ None }
+    ensures delays { with_delay (Some example_triple) (answered own_port 5 own_port (Some example_request)) (pos 193) (pos 0) [] ≡ pos 98304 ∷ [] }
+    ensures without { with_delay None (Some example_request) (pos 193) (pos 0) [] ≡ [] }
 {}
 
-/// A delay, an offset, and medians of two.
+/// A delay, an offset, and medians of two and of three.
 pub fn examples_are_measured()
     ensures sum { delay_sum example_triple (pos 200) (pos 193) (pos 0) ≡ pos 196609 }
     ensures delay { delay_of example_triple (pos 200) (pos 193) (pos 0) ≡ pos 98304 }
+    ensures corrected { delay_of example_triple (pos 200) (pos 193) (pos 3) ≡ pos 98303 }
     ensures offset { offset_of example_triple (pos 98304) ≡ pos 557057 }
     ensures in_ns { ns_of (offset_of example_triple (pos 98304)) ≡ pos 8 }
     ensures below { delay_of (triple_from (pos 0) (pos 0) (pos 1)) (pos 0) (pos 0) (pos 0) ≡ negsuc 0 }
+    ensures measure { measure_of example_triple (Some (pos 98304)) ≡ Some (record { offset = pos 557057; delay = pos 98304; local = pos 110 }) }
+    ensures no_mean { measure_of example_triple (mean_of 32 []) ≡ None }
     ensures both_above { median (pos 1 ∷ pos 4 ∷ []) ≡ Some (pos 2) }
     ensures both_below { median (negsuc 0 ∷ negsuc 3 ∷ []) ≡ Some (negsuc 2) }
+    ensures odd { median (pos 4 ∷ negsuc 0 ∷ pos 9 ∷ []) ≡ Some (pos 4) }
+    ensures newest { mean_of 2 (pos 4 ∷ pos 1 ∷ pos 9 ∷ []) ≡ Some (pos 2) }
 {}
 
 /// A servo that locks, meets its limit, holds the integral and comes back; and one that is just
@@ -71,6 +80,8 @@ pub fn examples_are_steered()
     ensures limited { steer example_servo
         (sample (pos 0) 5 ∷ sample (pos 1000) 4 ∷ sample (pos 1000) 3 ∷ sample (pos 100) 2 ∷ sample (pos 100) 1 ∷ [])
         ≡ Locked (neg_ℤ (pos 19660800)) ∷ Locked (neg_ℤ (pos 65536000)) ∷ Locked (neg_ℤ (pos 65536000)) ∷ Locked (pos 0) ∷ Unlocked ∷ [] }
+    ensures rounded { steer example_servo (sample (pos 0) 4 ∷ sample (negsuc 0) 3 ∷ sample (pos 0) 2 ∷ sample (pos 0) 1 ∷ [])
+        ≡ Locked (pos 19661) ∷ Locked (pos 65537) ∷ Locked (pos 0) ∷ Unlocked ∷ [] }
     ensures near { steer example_servo (sample (pos 20000) 2 ∷ sample (pos 20000) 1 ∷ []) ≡ Locked (pos 0) ∷ Unlocked ∷ [] }
     ensures far { steer example_servo (sample (pos 20001) 2 ∷ sample (pos 20001) 1 ∷ []) ≡ Jump (neg_ℤ (pos 20001)) (pos 0) ∷ Unlocked ∷ [] }
 {}

@@ -2,7 +2,7 @@ ghost use Rattle.std.specs.Prelude.{◌≡◌, ◌↔◌, ℕ, List, ◌++◌, O
 ghost use Rattle.ptp_profile.specs.declared.message.Message.{Message};
 ghost use Rattle.ptp_profile.specs.Wire.{Reads, written, IsSpelled, SameRead, decoded};
 ghost use Rattle.ptp_profile.specs.Spelled.{IsMessage, FitsPort, FitsSaid, FitsBody};
-ghost use Rattle.ptp_profile.specs.WireExamples.{announce, announce_octets, sync, sync_octets, delay_resp, delay_resp_octets};
+ghost use Rattle.ptp_profile.specs.WireExamples.{announce, announce_octets, sync, sync_octets, delay_resp, delay_resp_octets, follow_up, follow_up_octets};
 
 use crate::message::{Body, Message, Said};
 use ptp_base::PortId;
@@ -64,12 +64,13 @@ pub fn free_octets()
     ensures { (domain : ℕ) (b c : List ℕ) → SameRead b c → decoded domain b ≡ decoded domain c }
 {}
 
-/// An Announce, a Sync and a Delay_Resp of one master read as what they are.
+/// An Announce, a Sync, a Delay_Resp and a Follow_Up read as what they are.
 #[tactic(auto, unfolding(crate::specs::Wire::number_at))]
 pub fn examples_are_read()
     ensures announce { decoded 0 announce_octets ≡ Ok announce }
     ensures sync { decoded 0 sync_octets ≡ Ok sync }
     ensures delay_resp { decoded 0 delay_resp_octets ≡ Ok delay_resp }
+    ensures follow_up { decoded 5 follow_up_octets ≡ Ok follow_up }
 {}
 
 /// And they are written so, octet by octet.
@@ -78,4 +79,5 @@ pub fn examples_are_written()
     ensures announce { written announce ≡ announce_octets }
     ensures sync { written sync ≡ sync_octets }
     ensures delay_resp { written delay_resp ≡ delay_resp_octets }
+    ensures follow_up { written follow_up ≡ follow_up_octets }
 {}
