@@ -24,7 +24,7 @@ use Rattle.ptp_profile.specs.declared.roles.RoleOrder.{RoleOrder}
 use Rattle.ptp_profile.specs.Machine.{is_following, is_dependent, next, state_number}
 use Rattle.ptp_profile.specs.Decision.{code_of, is_received_on}
 use Rattle.ptp_profile.specs.Roles.{Stamp, stamp_of, AtMostOneFollows}
-use Rattle.ptp_profile.specs.Port.{Port, Request, after_event, entered, uncalibrated, gets_parent, cleared, renewed, flushed, fired, is_set_for, after_timing, with_delay}
+use Rattle.ptp_profile.specs.Port.{Port, after_event, entered, uncalibrated, gets_parent, cleared, renewed, flushed, fired, is_set_for, after_timing, with_response}
 use Rattle.bc_history.specs.declared.entry.Input.{Input}
 use Rattle.bc_history.specs.declared.entry.Input.TheVariants.{Frame, Timed, Down, Up, Report, Turn, Sampled, Query}
 use Rattle.bc_history.specs.declared.entry.Outcome.{Outcome}
@@ -63,13 +63,12 @@ if_fired : (b : Bool) (tick : ℕ) (seen : ℤ) (timer : Timer) (p : Port) → A
 if_fired true tick seen timer p = fired_alike tick seen timer p
 if_fired false tick seen timer p = alike p
 
-delay_alike : (message : Message) (body : Body) (request : Option Request) (p : Port) → Alike (with_delay message body request p) p
-delay_alike message (DelayResp receive requesting) (Some request) p = record { id = refl; state = refl }
-delay_alike message (DelayResp receive requesting) None p = alike p
-delay_alike message (Sync origin) request p = alike p
-delay_alike message (DelayReq origin) request p = alike p
-delay_alike message (FollowUp precise) request p = alike p
-delay_alike message (Announce origin said) request p = alike p
+response_alike : (message : Message) (body : Body) (p : Port) → Alike (with_response message body p) p
+response_alike message (DelayResp receive requesting) p = record { id = refl; state = refl }
+response_alike message (Sync origin) p = alike p
+response_alike message (DelayReq origin) p = alike p
+response_alike message (FollowUp precise) p = alike p
+response_alike message (Announce origin said) p = alike p
 
 timing_alike : (message : Message) (seen : ℤ) (fate : Fate) (p : Port) → Alike (after_timing message seen fate p) p
 timing_alike message seen Asleep p = alike p
@@ -82,7 +81,7 @@ timing_alike message seen Kept p = alike p
 timing_alike message seen Ignored p = alike p
 timing_alike message seen Waiting p = record { id = refl; state = refl }
 timing_alike message seen Paired p = record { id = refl; state = refl }
-timing_alike message seen Matched p = delay_alike message message.body p.request p
+timing_alike message seen Matched p = response_alike message message.body p
 timing_alike message seen Unmatched p = alike p
 timing_alike message seen Answered p = alike p
 

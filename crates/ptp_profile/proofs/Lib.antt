@@ -4,3 +4,8 @@ pub mod GenerationLemmas
 pub mod LogLemmas
 pub mod OrderLemmas
 pub mod PortLemmas
+pub mod WireRoundTrip
+pub mod WireFree
+pub mod WireReading
+pub mod ServoLemmas
+pub mod MedianLemmas

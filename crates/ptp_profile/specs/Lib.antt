@@ -6,6 +6,8 @@ pub mod Wire
 pub mod Spelled
 pub mod Servo
 pub mod Sync
+pub mod WireExamples
+pub mod TimingExamples
 pub mod Machine
 pub mod Timers
 pub mod DataSets
