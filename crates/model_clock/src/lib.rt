@@ -3,4 +3,7 @@
 
 mod state;
 
-pub use state::ClockState;
+pub use state::{ClockState, later_reads_no_less};
+
+#[cfg(test)]
+mod tests;

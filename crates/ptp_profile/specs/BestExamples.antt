@@ -3,6 +3,7 @@ use Rattle.std.specs.Prelude.{ℕ, zero, suc, pos, false, List, [], ◌∷◌, �
 use Rattle.ptp_base.specs.declared.announcement.Announcement.{Announcement}
 use Rattle.ptp_base.specs.declared.announcement.Quality.{Quality}
 use Rattle.ptp_base.specs.declared.identity.PortId.{PortId}
+use Rattle.ptp_base.specs.declared.port.PortConf.{PortConf}
 use Rattle.ptp_base.specs.declared.port.PortState.{PortState}
 use Rattle.ptp_base.specs.declared.port.PortState.TheVariants.{Listening}
 use Rattle.ptp_profile.specs.declared.foreign.KeptAnnounce.{KeptAnnounce}
@@ -58,7 +59,11 @@ from_master = record {
   alternate = false;
 }
 
--- four announce intervals of two seconds
+-- a port where no option is set
+abbrev pub default_port : PortConf
+default_port = record { clock = 0; log_announce = pos 1; log_sync = pos 0; log_delay = pos 0; receipt = 3 }
+
+-- its foreign master window: four announce intervals of two seconds
 abbrev pub window : ℕ
 window = 8000000000
 

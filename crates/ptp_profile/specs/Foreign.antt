@@ -1,9 +1,8 @@
 -- The Announces that a port keeps, and the best of them (IEEE 1588-2019, 9.3.2). A list of kept Announces has the newest first, and begins anew
 -- at each reset of the port.
-use Rattle.std.specs.Prelude.{ℕ, ℤ, ◌+◌, ◌*◌, Bool, ◌==◌, ◌&&◌, nat_lt, nat_le, if◌then◌else◌, List, [], ◌∷◌, length, count_by, filter, filter_map, find, fold, option_map, Option, Some, None}
+use Rattle.std.specs.Prelude.{ℕ, ◌+◌, Bool, ◌==◌, ◌&&◌, nat_lt, nat_le, if◌then◌else◌, List, [], ◌∷◌, length, count_by, filter, filter_map, find, fold, option_map, Option, Some, None}
 use Rattle.std.specs.declared.cmp.Ordering.{Ordering}
 use Rattle.std.specs.declared.cmp.Ordering.TheVariants.{Less, Equal, Greater}
-use Rattle.ptp_base.specs.Floor.{interval_of}
 use Rattle.ptp_base.specs.declared.identity.PortId.{PortId}
 use Rattle.ptp_base.specs.declared.announcement.Announcement.{Announcement}
 use Rattle.ptp_profile.specs.declared.foreign.KeptAnnounce.{KeptAnnounce}
@@ -13,10 +12,6 @@ use Rattle.ptp_profile.specs.declared.port.Fate.{Fate}
 use Rattle.ptp_profile.specs.declared.port.Fate.TheVariants.{Kept as Fate_kept, Own as Fate_own, Far as Fate_far, Alternate as Fate_alternate, Crowded as Fate_crowded}
 use Rattle.ptp_profile.specs.Identity.{is_same_port, port_cmp}
 use Rattle.ptp_profile.specs.Compare.{wins}
-
--- the length of the foreign master window: four announce intervals, by the logarithm of one (9.3.2)
-abbrev pub window_of : ℤ → ℕ
-window_of log = 4 * interval_of log
 
 -- a kept Announce is of this sender (9.3.2.5)
 abbrev pub is_from : PortId → KeptAnnounce → Bool

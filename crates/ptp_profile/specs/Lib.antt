@@ -6,5 +6,15 @@ pub mod Wire
 pub mod Spelled
 pub mod Servo
 pub mod Sync
+pub mod WireExamples
+pub mod TimingExamples
+pub mod Machine
+pub mod Timers
+pub mod DataSets
+pub mod Port
+pub mod Frames
+pub mod Roles
+pub mod Forest
+pub mod Logs
 pub mod BestLaws
 pub mod BestExamples

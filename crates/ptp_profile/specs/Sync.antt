@@ -1,58 +1,118 @@
--- Pairs of Sync and Follow_Up, delays and offsets.
-use Rattle.std.specs.Prelude.{ℕ, ℤ, pos, ◌+ℤ◌, ◌-ℤ◌, ◌*ℤ◌, int_le, ◌+◌, ◌-◌, ◌/◌, ◌%◌, Bool, true, false, not, ◌==◌, ◌&&◌, if◌then◌else◌, List, [], ◌∷◌, length, take, slice_get, Option, Some, None, is_none}
-use Rattle.ptp_base.specs.declared.triple.Triple.{Triple}
+-- Pairs of Sync and Follow_Up, delays, their mean, and offsets. Times are in ns, corrections, delays and offsets in ns times 65,536.
+-- The lists have the newest first.
+use Rattle.std.specs.Prelude.{ℕ, ℤ, pos, ◌+ℤ◌, ◌-ℤ◌, ◌*ℤ◌, int_le, ◌-◌, ◌/◌, ◌%◌, ◌==◌, ◌&&◌, if◌then◌else◌, List, [], ◌∷◌, length, take, slice_index_or, Option, Some, None, is_none}
 use Rattle.ptp_base.specs.Floor.{floor_of}
+use Rattle.ptp_base.specs.declared.identity.PortId.{PortId}
+use Rattle.ptp_base.specs.declared.triple.Triple.{Triple}
 use Rattle.ptp_profile.specs.declared.timing.Measure.{Measure}
+use Rattle.ptp_profile.specs.Identity.{is_same_port}
 
--- a Sync or a Follow_Up of the parent
+-- ---- pairs
+
+-- a Sync that bears its own origin, one whose origin comes in a Follow_Up, and a Follow_Up with that origin (9.5.4, 9.5.5)
 pub data Piece : Type 0 where
   One_step : (origin arrived correction : ℤ) → Piece
   Sync : (seq : ℕ) (arrived correction : ℤ) → Piece
   Follow_up : (seq : ℕ) (precise correction : ℤ) → Piece
 
--- what two pieces that follow each other give
+-- the two times of a Sync and all corrections (11.2)
+abbrev pub triple_from : ℤ → ℤ → ℤ → Triple
+triple_from origin arrived correction = record { origin = origin; arrived = arrived; correction = correction }
+
+-- what two pieces of one sequence and of both kinds give, in either order (11.2)
 abbrev pub joined : Piece → Piece → Option Triple
-joined (Sync seq arrived c) (Follow_up seq' precise d) = if seq == seq' then Some (record { origin = precise; arrived = arrived; correction = c +ℤ d }) else None
-joined (Follow_up seq' precise d) (Sync seq arrived c) = if seq == seq' then Some (record { origin = precise; arrived = arrived; correction = c +ℤ d }) else None
-joined (One_step _ _ _) _ = None
-joined _ (One_step _ _ _) = None
-joined (Sync _ _ _) (Sync _ _ _) = None
-joined (Follow_up _ _ _) (Follow_up _ _ _) = None
+joined (Sync seq arrived c) (Follow_up other precise d) =
+    if seq == other then Some (triple_from precise arrived (c +ℤ d)) else None
+joined (Follow_up other precise d) (Sync seq arrived c) =
+    if seq == other then Some (triple_from precise arrived (c +ℤ d)) else None
+joined (Sync seq arrived c) (Sync other later d) = None
+joined (Sync seq arrived c) (One_step origin later d) = None
+joined (Follow_up seq precise c) (Follow_up other origin d) = None
+joined (Follow_up seq precise c) (One_step origin arrived d) = None
+joined (One_step origin arrived c) piece = None
 
--- what a piece gives after the pieces before it, the newest first
+-- own: what a piece gives after those before it since the pairing was last cleared: a one-step Sync by itself, and any other with the
+-- piece just before it, if that gave nothing
 abbrev pub given : Piece → List Piece → Option Triple
-given (One_step origin arrived c) before = Some (record { origin = origin; arrived = arrived; correction = c })
-given piece [] = None
-given piece (former ∷ before) = if is_none (given former before) then joined former piece else None
+given (One_step origin arrived c) before = Some (triple_from origin arrived c)
+given (Sync seq arrived c) [] = None
+given (Sync seq arrived c) (former ∷ before) =
+    if is_none (given former before) then joined former (Sync seq arrived c) else None
+given (Follow_up seq precise c) [] = None
+given (Follow_up seq precise c) (former ∷ before) =
+    if is_none (given former before) then joined former (Follow_up seq precise c) else None
 
--- one delay: of the triple's two times and correction, and the request's and the response's
+-- the first of two that is there
+abbrev or_else : Option Triple → Option Triple → Option Triple
+or_else (Some t) other = Some t
+or_else None other = other
+
+-- the last that the pieces gave
+abbrev pub last_triple : List Piece → Option Triple
+last_triple [] = None
+last_triple (piece ∷ before) = or_else (given piece before) (last_triple before)
+
+-- ---- delays
+
+-- a Delay_Req of the port, and its departure (9.5.11)
+pub record Request : Type 0 where
+  pub seq : ℕ
+  pub sent : ℤ
+
+-- the request that a Delay_Resp answers: the one that waits, if it has that sequence, and the own port is the one that is named (9.5.7)
+abbrev pub answered : PortId → ℕ → PortId → Option Request → Option Request
+answered own seq requesting None = None
+answered own seq requesting (Some request) = if (request.seq == seq) && is_same_port requesting own then Some request else None
+
+-- twice the delay: (t2 - t3) + (t4 - t1), less all corrections (11.3.2)
+abbrev pub delay_sum : Triple → ℤ → ℤ → ℤ → ℤ
+delay_sum t sent received correction =
+    ((((t.arrived -ℤ sent) +ℤ (received -ℤ t.origin)) *ℤ pos 65536) -ℤ t.correction) -ℤ correction
+
+-- the delay that a Sync, a Delay_Req and its Delay_Resp show (11.3.2)
 abbrev pub delay_of : Triple → ℤ → ℤ → ℤ → ℤ
-delay_of t sent received d = floor_of ((((t.arrived -ℤ sent) +ℤ (received -ℤ t.origin)) *ℤ pos 65536 -ℤ t.correction) -ℤ d) (pos 2)
+delay_of t sent received correction = floor_of (delay_sum t sent received correction) (pos 2)
+
+-- the delays with the one of an answered request, where a Sync and its origin are there (11.3.2)
+abbrev pub with_delay : Option Triple → Option Request → ℤ → ℤ → List ℤ → List ℤ
+with_delay None request received correction delays = delays
+with_delay (Some t) None received correction delays = delays
+with_delay (Some t) (Some request) received correction delays = delay_of t request.sent received correction ∷ delays
+
+-- ---- the mean
 
 -- one more number, in rising order
 abbrev pub with_number : ℤ → List ℤ → List ℤ
 with_number x [] = x ∷ []
 with_number x (y ∷ ys) = if int_le x y then x ∷ y ∷ ys else y ∷ with_number x ys
 
+-- the numbers in rising order
 abbrev pub rising : List ℤ → List ℤ
 rising [] = []
 rising (x ∷ xs) = with_number x (rising xs)
 
--- the floor of half the sum of two
-abbrev pub halfway : Option ℤ → Option ℤ → Option ℤ
-halfway (Some x) (Some y) = Some (floor_of (x +ℤ y) (pos 2))
-halfway (Some x) None = Some x
-halfway None y = None
+-- of numbers in rising order the middle one, or the floor of half the sum of the middle two
+abbrev pub middle : List ℤ → ℤ
+middle xs =
+    if length xs % 2 == 1 then slice_index_or xs (length xs / 2) (pos 0)
+    else floor_of (slice_index_or xs (length xs / 2 - 1) (pos 0) +ℤ slice_index_or xs (length xs / 2) (pos 0)) (pos 2)
 
--- the middle one, or halfway between the middle two
+-- own: the median, where there is a number
 abbrev pub median : List ℤ → Option ℤ
-median xs = if length xs % 2 == 1 then slice_get (rising xs) (length xs / 2) else halfway (slice_get (rising xs) (length xs / 2 - 1)) (slice_get (rising xs) (length xs / 2))
+median [] = None
+median (x ∷ xs) = Some (middle (rising (x ∷ xs)))
 
--- the mean of the last so many delays, the newest first
+-- own: the mean delay is the median of the last so many (the standard leaves the filter to the clock, 11.3.2)
 abbrev pub mean_of : ℕ → List ℤ → Option ℤ
 mean_of kept delays = median (take kept delays)
 
--- what a triple says of the offset
+-- ---- offsets
+
+-- offsetFromMaster: t2 - t1 less the mean delay and all corrections (11.2)
+abbrev pub offset_of : Triple → ℤ → ℤ
+offset_of t mean = (((t.arrived -ℤ t.origin) *ℤ pos 65536) -ℤ mean) -ℤ t.correction
+
+-- what a Sync and its origin show once there is a mean delay (11.2)
 abbrev pub measure_of : Triple → Option ℤ → Option Measure
 measure_of t None = None
-measure_of t (Some mean) = Some (record { offset = ((t.arrived -ℤ t.origin) *ℤ pos 65536 -ℤ mean) -ℤ t.correction; delay = mean; local = t.arrived })
+measure_of t (Some mean) = Some (record { offset = offset_of t mean; delay = mean; local = t.arrived })

@@ -1,15 +1,16 @@
-ghost use Rattle.std.specs.Prelude.{◌≡◌, [], ◌∷◌, Some, None, pos, true, map};
+ghost use Rattle.std.specs.Prelude.{◌≡◌, [], ◌∷◌, Some, None, true, map};
 ghost use Rattle.ptp_base.specs.declared.decision.Code.TheVariants.{Stay, M1, M2, M3, P1, P2, S1};
 ghost use Rattle.ptp_base.specs.declared.port.PortState.TheVariants.{Faulty, Disabled, Initializing, Listening, PreMaster, Master, Passive, Uncalibrated, Slave};
 ghost use Rattle.ptp_profile.specs.declared.foreign.Heard.TheVariants.{Own, Far, Alternate, Crowded, Kept};
 ghost use Rattle.ptp_profile.specs.declared.port.Fate.TheVariants.{Own as Fate_own, Far as Fate_far, Alternate as Fate_alternate, Crowded as Fate_crowded, Kept as Fate_kept};
 ghost use Rattle.ptp_profile.specs.declared.foreign.Order.TheVariants.{ABetter, ATopo, BBetter, BTopo, Same};
 ghost use Rattle.ptp_profile.specs.Compare.{order_of};
-ghost use Rattle.ptp_profile.specs.Foreign.{hearing_of, fate_of_hearing, window_of, qualified, erbest, ebest};
+ghost use Rattle.ptp_profile.specs.Foreign.{hearing_of, fate_of_hearing, qualified, erbest, ebest};
+ghost use Rattle.ptp_profile.specs.Timers.{window_of};
 ghost use Rattle.ptp_profile.specs.Decision.{codes_of};
 ghost use Rattle.ptp_profile.specs.BestLaws.{BestWins, BestIsMember, NoBestOfNone, QualifiedAreCoherent, BestsAreCoherent};
 ghost use Rattle.ptp_profile.specs.BestLaws.{SendersRise, SendersAreThose, QualifiedRise, QualifiedAreRecords, OneFollows, FollowerIsNamed, FollowerHearsBest};
-ghost use Rattle.ptp_profile.specs.BestExamples.{port_id, quality, own_clock, own_of_class, own_default, master_clock, from_master, window, kept_at, kept_twice, from_clock, kept_of, of_steps};
+ghost use Rattle.ptp_profile.specs.BestExamples.{port_id, quality, own_clock, own_of_class, own_default, default_port, master_clock, from_master, window, kept_at, kept_twice, from_clock, kept_of, of_steps};
 ghost use Rattle.ptp_profile.specs.BestExamples.{claimed, by_ends, path, first_claim, second_claim, third_claim, silent, hearing, preferred, hears_relayed, heard_twice, from_second_master};
 
 /// In a coherent set the best announcement wins against every other one. Of every set the best is
@@ -148,7 +149,7 @@ pub fn pass_in_order()
 /// A sender's first Announce doesn't qualify it, its second does while both are in the window. The
 /// record is the latest one.
 pub fn two_qualify()
-    ensures window { window_of (pos 1) ≡ window }
+    ensures window { window_of default_port ≡ window }
     ensures one { qualified window 1000000000 (kept_at 1000000000 from_master ∷ []) ≡ [] }
     ensures two { qualified window 3000000000
         (kept_at 3000000000 from_master ∷ kept_at 1000000000 from_master ∷ [])

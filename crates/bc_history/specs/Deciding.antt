@@ -1,0 +1,100 @@
+-- The second phase of an entry: the decision for all ports, where the entry raises one (IEEE 1588-2019, 9.3.3 and 9.3.5).
+use Rattle.std.specs.Prelude.{ℕ, Bool, true, false, not, ◌&&◌, if◌then◌else◌, List, [], ◌∷◌, map, Option, Some, None}
+use Rattle.ptp_base.specs.declared.identity.PortId.{PortId}
+use Rattle.ptp_base.specs.declared.announcement.Announcement.{Announcement}
+use Rattle.ptp_base.specs.declared.decision.Code.{Code}
+use Rattle.ptp_profile.specs.declared.port.Fate.{Fate}
+use Rattle.ptp_profile.specs.declared.port.Fate.TheVariants.{Kept}
+use Rattle.ptp_profile.specs.declared.port.Timer.TheVariants.{AnnounceReceipt, Qualification, AnnounceSend, SyncSend, DelayRequest}
+use Rattle.ptp_profile.specs.declared.port.PortEvent.TheVariants.{Decided}
+use Rattle.ptp_profile.specs.declared.foreign.KeptAnnounce.{KeptAnnounce}
+use Rattle.ptp_profile.specs.Identity.{is_same_port}
+use Rattle.ptp_profile.specs.Foreign.{erbest, ebest}
+use Rattle.ptp_profile.specs.Decision.{code_of}
+use Rattle.ptp_profile.specs.DataSets.{Master, master_after}
+use Rattle.ptp_profile.specs.Machine.{is_dependent}
+use Rattle.ptp_profile.specs.Timers.{window_of}
+use Rattle.ptp_profile.specs.Port.{is_set_for, after_event, renewed}
+use Rattle.bc_history.specs.declared.entry.Input.{Input}
+use Rattle.bc_history.specs.declared.entry.Input.TheVariants.{Frame, Timed, Down, Up, Report, Turn, Sampled, Query}
+use Rattle.bc_history.specs.declared.scenario.Options.{Options}
+use Rattle.bc_history.specs.Inputs.{port_of, port_at, at_port, holds}
+use Rattle.bc_history.specs.Opening.{own_of}
+use Rattle.bc_history.specs.Own.{fate_at}
+use Rattle.bc_history.specs.State.{Event, HubPort, Core}
+
+-- Erbest: the best announcement that a port hears, at moment m
+abbrev pub best_of : ℕ → HubPort → Option Announcement
+best_of m h = erbest (window_of h.port.conf) m h.kept
+
+-- Ebest: the best of all ports
+abbrev pub best_among : ℕ → List HubPort → Option Announcement
+best_among m ports = ebest (map (best_of m) ports)
+
+abbrev pub is_kept : Option Fate → Bool
+is_kept (Some Kept) = true
+is_kept _ = false
+
+-- a kept Announce, an announce receipt timeout, a fault and its end raise a decision; the ports are those before the entry
+abbrev pub raises : Option Fate → List HubPort → Input → Bool
+raises fate ports (Frame port tick octets) = is_kept fate
+raises fate ports (Timed port tick AnnounceReceipt) = holds (λ (h : HubPort). is_set_for AnnounceReceipt tick h.port) (port_at ports port)
+raises fate ports (Timed port tick Qualification) = false
+raises fate ports (Timed port tick AnnounceSend) = false
+raises fate ports (Timed port tick SyncSend) = false
+raises fate ports (Timed port tick DelayRequest) = false
+raises fate ports (Down port tick) = true
+raises fate ports (Up port tick) = true
+raises fate ports (Report port tick gener action outcome) = false
+raises fate ports (Turn clock tick) = false
+raises fate ports (Sampled clock tick lead theirs own action outcome) = false
+raises fate ports (Query tick text) = false
+
+-- the code of a port, with the own announcement and Ebest
+abbrev pub code_with : Announcement → ℕ → Option Announcement → HubPort → Code
+code_with own m best h = code_of own best h.port.id.port h.port.state (best_of m h)
+
+-- the data sets after the decision
+abbrev pub master_among : Announcement → ℕ → Option Announcement → Master → List HubPort → Master
+master_among own m best master ports = master_after own best master (map (code_with own m best) ports)
+
+-- Ebest comes from another sender than the parent
+abbrev pub is_new_parent : Option Announcement → PortId → Bool
+is_new_parent best parent = holds (λ (a : Announcement). not (is_same_port a.sender parent)) best
+
+-- a port after the decision; the parent is the one before it, the steps are those after it
+abbrev pub decided_port : Announcement → ℕ → Option Announcement → PortId → ℕ → HubPort → HubPort
+decided_port own m best parent steps h = record h { port = after_event m steps (Decided (code_with own m best h)) (is_new_parent best parent) h.port }
+
+-- the decision for all ports: the data sets first, then each port
+unfoldable pub decided : Announcement → Option Announcement → Core → Core
+decided own best c = record c {
+  master = master_among own c.moment best c.master c.ports;
+  ports = map (decided_port own c.moment best c.master.parent (master_among own c.moment best c.master c.ports).steps) c.ports;
+}
+
+-- the announcement comes from the sender
+abbrev pub is_sent_by : Option Announcement → Option PortId → Bool
+is_sent_by None sender = false
+is_sent_by (Some a) None = false
+is_sent_by (Some a) (Some sender) = is_same_port a.sender sender
+
+-- the sender of the newest of the kept Announces
+abbrev pub newest_sender : List KeptAnnounce → Option PortId
+newest_sender [] = None
+newest_sender (k ∷ kept) = Some k.said.sender
+
+-- announce receipt is set anew where a port that counts on another clock hears its best sender
+abbrev pub renewed_by : ℕ → HubPort → HubPort
+renewed_by m h = if is_dependent h.port.state && is_sent_by (best_of m h) (newest_sender h.kept) then record h { port = renewed m h.port } else h
+
+-- after a kept Announce and its decision, for the port that heard it
+unfoldable pub heard : Input → Core → Core
+heard input c = record c { ports = at_port (renewed_by c.moment) (port_of input) c.ports }
+
+abbrev pub raised : Options → Option Fate → Input → Core → Core
+raised o fate input c = if is_kept fate then heard input (decided (own_of o) (best_among c.moment c.ports) c) else decided (own_of o) (best_among c.moment c.ports) c
+
+-- the decision, where the entry raises one: before is what stood before the entry, c what its own phase left
+abbrev pub ruled : Options → Event → Core → Core → Core
+ruled o e before c = if raises (fate_at o e before) before.ports e.input then raised o (fate_at o e before) e.input c else c

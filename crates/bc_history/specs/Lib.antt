@@ -1,0 +1,16 @@
+pub mod State
+pub mod Inputs
+pub mod Opening
+pub mod Own
+pub mod Deciding
+pub mod Generations
+pub mod Telling
+pub mod Step
+pub mod Effects
+pub mod Next
+pub mod History
+pub mod Outcomes
+pub mod World
+pub mod Silent
+pub mod Examples
+pub mod Text

@@ -1,0 +1,55 @@
+-- What stands before the first entry.
+use Rattle.std.specs.Prelude.{ℕ, pos, ◌+◌, List, [], ◌∷◌, length, replicate, None, false}
+use Rattle.ptp_base.specs.declared.identity.PortId.{PortId}
+use Rattle.ptp_base.specs.declared.announcement.Announcement.{Announcement}
+use Rattle.ptp_base.specs.declared.announcement.Quality.{Quality}
+use Rattle.ptp_base.specs.declared.port.PortConf.{PortConf}
+use Rattle.ptp_profile.specs.DataSets.{own_master}
+use Rattle.ptp_profile.specs.Port.{open_port}
+use Rattle.ptp_profile.specs.declared.timing.ServoConf.{ServoConf}
+use Rattle.bc_history.specs.declared.scenario.Scenario.{Scenario}
+use Rattle.bc_history.specs.declared.scenario.Options.{Options}
+use Rattle.bc_history.specs.State.{HubPort, Follower, State}
+
+-- the identity of a port of the own clock
+abbrev pub own_port : Options → ℕ → PortId
+own_port o p = record { clock = o.clock_identity; port = p }
+
+abbrev pub own_quality : Options → Quality
+own_quality o = record { priority1 = o.priority1; class = o.clock_class; accuracy = o.clock_accuracy; variance = o.offset_scaled_log_variance; priority2 = o.priority2 }
+
+-- what the own clock would announce (D0 of IEEE 1588-2019, 9.3.4)
+abbrev pub own_of : Options → Announcement
+own_of o = record {
+  grandmaster = o.clock_identity;
+  quality = own_quality o;
+  steps = 0;
+  sender = own_port o 0;
+  receiver = own_port o 0;
+  time = record { utc_offset = o.utc_offset; flags = o.time_flags; source = o.time_source };
+  alternate = false;
+}
+
+abbrev pub servo_of : Options → ServoConf
+servo_of o = record { kp = o.servo_kp; ki = o.servo_ki; max = o.max_frequency; step = o.step_threshold; first_step = o.first_step_threshold }
+
+abbrev pub open_hub_port : Options → ℕ → PortConf → HubPort
+open_hub_port o p conf = record { port = open_port (own_port o p) conf; kept = []; taken = 0; measured = None }
+
+-- the ports from p on
+abbrev pub open_ports : Options → ℕ → List PortConf → List HubPort
+open_ports o p [] = []
+open_ports o p (conf ∷ confs) = open_hub_port o p conf ∷ open_ports o (p + 1) confs
+
+abbrev pub open_follower : Follower
+open_follower = record { turns = 0; subscribed = None; last = None; put = 0; leading = None }
+
+-- every port in LISTENING, the own clock as master, no edges and no orders
+abbrev pub opening : Scenario → State
+opening s = record {
+  core = record { moment = 0; ports = open_ports s.options 1 s.ports; master = own_master (own_of s.options) };
+  roles = record { edges = replicate (length s.clocks) None; gener = 0; orders = [] };
+  measured = None;
+  followers = replicate (length s.clocks) open_follower;
+  queries = 0;
+}

@@ -1,0 +1,60 @@
+-- What a history gives: each port, the data sets, the roles, and what the followers were told.
+use Rattle.std.specs.Prelude.{ℕ, List, Option}
+use Rattle.ptp_profile.specs.declared.timing.Measure.{Measure}
+use Rattle.ptp_profile.specs.declared.seats.Held.{Held}
+use Rattle.ptp_profile.specs.declared.roles.Edge.{Edge}
+use Rattle.ptp_profile.specs.declared.roles.RoleOrder.{RoleOrder}
+use Rattle.ptp_profile.specs.declared.roles.Notice.{Notice}
+use Rattle.ptp_profile.specs.declared.roles.Lead.{Lead}
+use Rattle.ptp_profile.specs.declared.foreign.KeptAnnounce.{KeptAnnounce}
+use Rattle.ptp_profile.specs.DataSets.{Master}
+use Rattle.ptp_profile.specs.Port.{Port}
+use Rattle.bc_history.specs.declared.entry.Input.{Input}
+use Rattle.bc_history.specs.declared.entry.Seen.{Seen}
+
+-- what an entry adds by itself: its input and its reading; all else follows from the history
+pub record Event : Type 0 where
+  pub input : Input
+  pub seen : Option Seen
+
+-- one port, with what the hub keeps beside its machine
+pub record HubPort : Type 0 where
+  pub port : Port
+  -- the Announces with the fate kept since the last reset, the newest first
+  pub kept : List KeptAnnounce
+  -- how many records of the scenario came
+  pub taken : ℕ
+  -- the tick and the measure of the port's last entry, where it gave one
+  pub measured : Option (ℕ × (Measure × Held))
+
+-- the follower of one clock
+pub record Follower : Type 0 where
+  pub turns : ℕ
+  -- the tick and the moment of the last subscription
+  pub subscribed : Option (ℕ × ℕ)
+  -- the last notice that was ever put, and how many were put since the last turn
+  pub last : Option Notice
+  pub put : ℕ
+  -- the tick and the lead that the follower's last entry told it
+  pub leading : Option (ℕ × Lead)
+
+-- the moment, the ports, and whom the clock takes its time from
+pub record Core : Type 0 where
+  pub moment : ℕ
+  pub ports : List HubPort
+  pub master : Master
+
+-- what drives each clock, the present generation, and the orders of all generations, the newest first
+pub record Roles : Type 0 where
+  pub edges : List (Option Edge)
+  pub gener : ℕ
+  pub orders : List RoleOrder
+
+pub record State : Type 0 where
+  pub core : Core
+  pub roles : Roles
+  -- the last measure of any port
+  pub measured : Option Measure
+  pub followers : List Follower
+  -- how many queries came
+  pub queries : ℕ

@@ -1,0 +1,119 @@
+use model_clock::ClockState;
+use ptp_base::{ClockId, Items, Octets, PortConf};
+
+/// The clocks of a scenario as they begin, from clock 0 on.
+pub type ClockStates = Items<ClockState>;
+/// The ports of a scenario, from port 1 on.
+pub type PortConfs = Items<PortConf>;
+/// The records of a scenario, in the order of its text.
+pub type RecordList = Items<Record>;
+/// The queries of a scenario, in the order of its text.
+pub type AskedList = Items<Asked>;
+/// The schedule of a scenario, in the order of its text.
+pub type TurnsList = Items<Turns>;
+
+/// The options of a scenario. Times are in ns.
+#[derive(Clone, Copy, Debug, PartialEq, Eq)]
+pub struct Options {
+    /// The own clock's identity (defaultDS.clockIdentity).
+    pub clock_identity: ClockId,
+    /// domainNumber, 0 to 127.
+    pub domain_number: u8,
+    /// priority1 of the own clock.
+    pub priority1: u8,
+    /// priority2 of the own clock.
+    pub priority2: u8,
+    /// clockClass of the own clock.
+    pub clock_class: u8,
+    /// clockAccuracy of the own clock.
+    pub clock_accuracy: u8,
+    /// offsetScaledLogVariance of the own clock.
+    pub offset_scaled_log_variance: u16,
+    /// currentUtcOffset of the own clock, in seconds, 0 to 32,767.
+    pub utc_offset: i16,
+    /// The six time flags of the own clock.
+    pub time_flags: u8,
+    /// timeSource of the own clock.
+    pub time_source: u8,
+    /// Whether the ports may be on different clocks ("just a bunch of devices").
+    pub boundary_clock_jbod: bool,
+    /// The greatest magnitude of a frequency, in ppb, 1 to 900,000,000.
+    pub max_frequency: u32,
+    /// The offset above which a servo that runs begins anew; 0 for never.
+    pub step_threshold: u64,
+    /// The offset above which a servo steps as it first locks; 0 for never.
+    pub first_step_threshold: u64,
+    /// The servo's proportional gain, in thousandths, 0 to 10,000.
+    pub servo_kp: u32,
+    /// The servo's integral gain, in thousandths, 0 to 10,000.
+    pub servo_ki: u32,
+    /// Of how many delays the median is taken, 1 to 32.
+    pub delay_filter_length: u8,
+    /// The end of the run.
+    pub duration: u64,
+    /// The length of the windows in which threads run.
+    pub window: u64,
+    /// How often a follower takes its turn.
+    pub follow_interval: u64,
+    /// How long a subscription lasts.
+    pub subscribe_duration: u64,
+    /// After how long a follower subscribes anew.
+    pub subscribe_renew: u64,
+    /// How many entries a clock's log may have, 1 to 262,143.
+    pub seat_rows: u32,
+}
+
+/// What happens to a port from outside.
+#[derive(Debug, Drop)]
+pub enum Happening {
+    /// A frame of at least one octet arrives.
+    Frame(Octets),
+    /// The link goes down.
+    Down,
+    /// The link comes up.
+    Up,
+}
+
+/// What happens to a port, and at which tick.
+#[derive(Debug, Drop)]
+pub struct Record {
+    pub port: u16,
+    pub tick: u64,
+    pub what: Happening,
+}
+
+/// A management query and its tick.
+#[derive(Debug, Drop)]
+pub struct Asked {
+    pub tick: u64,
+    pub text: Octets,
+}
+
+/// Whose turn it is.
+#[derive(Clone, Copy, Debug, PartialEq, Eq)]
+pub enum Turner {
+    /// The actor that the default rule names.
+    Default,
+    Port(u16),
+    /// The follower of a clock.
+    Clock(u8),
+    Queries,
+}
+
+/// So many turns in a row.
+#[derive(Clone, Copy, Debug, PartialEq, Eq)]
+pub struct Turns {
+    pub who: Turner,
+    pub count: u32,
+}
+
+/// What a run is made from.
+#[derive(Debug, Drop)]
+pub struct Scenario {
+    pub options: Options,
+    pub clocks: ClockStates,
+    pub ports: PortConfs,
+    pub records: RecordList,
+    pub queries: AskedList,
+    pub turns: TurnsList,
+}
