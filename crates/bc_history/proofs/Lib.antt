@@ -1,0 +1,6 @@
+pub mod States
+pub mod Following
+pub mod Ends
+pub mod SilentWorld
+pub mod Exchanges
+pub mod Histories

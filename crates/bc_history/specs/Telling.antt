@@ -1,9 +1,8 @@
 -- The fourth phase of an entry: what the followers are told (own, after phc2sys).
 use Rattle.std.specs.Prelude.{ℕ, ◌+◌, ◌-◌, Bool, not, ◌==◌, nat_le, nat_lt, if◌then◌else◌, List, [], ◌∷◌, slice_get, Option, Some, None, option_map, option_and_then}
-use Rattle.ptp_profile.specs.declared.roles.Edge.{Edge}
 use Rattle.ptp_profile.specs.declared.roles.Notice.{Notice}
 use Rattle.ptp_profile.specs.declared.roles.Lead.{Lead}
-use Rattle.ptp_profile.specs.Roles.{stamp_of, slave_port, lead_by}
+use Rattle.ptp_profile.specs.Roles.{notice_of}
 use Rattle.bc_history.specs.declared.entry.Input.{Input}
 use Rattle.bc_history.specs.declared.entry.Input.TheVariants.{Frame, Timed, Down, Up, Report, Turn, Sampled, Query}
 use Rattle.bc_history.specs.declared.entry.Told.{Told}
@@ -12,13 +11,9 @@ use Rattle.bc_history.specs.Inputs.{changed_at, holds}
 use Rattle.bc_history.specs.Generations.{states_of}
 use Rattle.bc_history.specs.State.{Follower, Core, Roles}
 
--- the edge of a clock
-abbrev pub edge_at : List (Option Edge) → ℕ → Option Edge
-edge_at edges clock = option_and_then (λ edge. edge) (slice_get edges clock)
-
--- the notice of the present generation to the follower of a clock; its lead has the generation of the last order of that clock
+-- the notice of the present generation to the follower of a clock
 abbrev pub notice_for : Core → Roles → ℕ → Notice
-notice_for c r clock = record { gener = r.gener; slave = slave_port (states_of c.ports); lead = lead_by (stamp_of clock r.orders).gener (edge_at r.edges clock) }
+notice_for c r clock = notice_of r.gener clock (states_of c.ports) r.edges r.orders
 
 -- one more notice for a follower
 abbrev pub put_on : Notice → Follower → Follower

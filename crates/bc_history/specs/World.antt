@@ -338,14 +338,15 @@ abbrev pub next_status : Scenario → ℕ → World → Option Turner → Status
 next_status s n w (Some turner) = take_step w (Not_due (n + 1)) (option_and_then (step_of s w) (turn_of s w turner))
 next_status s n w None = take_step w (Finished (run_of s w)) (option_and_then (step_of s w) (default_turn s w))
 
+-- one more turn, where the scenario has not ended
+abbrev pub turned : Scenario → ℕ → Status → Status
+turned s n (Going w) = next_status s n w (turner_at s.turns n)
+turned s n (Ended end) = Ended end
+
 -- where the scenario stands after n turns
 unfoldable pub status_after : Scenario → ℕ → Status
 status_after s zero = Going (world_opening s)
-status_after s (suc n) = go (status_after s n)
-  where
-    go : Status → Status
-    go (Going w) = next_status s n w (turner_at s.turns n)
-    go (Ended end) = Ended end
+status_after s (suc n) = turned s n (status_after s n)
 
 -- the scenario ends so after some number of turns
 abbrev pub IsEnd : Scenario → End → Type 0

@@ -1,3 +1,9 @@
+pub mod EdgeLemmas
+pub mod ForestLemmas
+pub mod GenerationLemmas
+pub mod LogLemmas
+pub mod OrderLemmas
+pub mod PortLemmas
 pub mod WireRoundTrip
 pub mod WireFree
 pub mod WireReading

@@ -1,5 +1,5 @@
 -- The log of a clock, the newest entry first: what was ordered and changed since the clock's opening (own).
-use Rattle.std.specs.Prelude.{ℕ, zero, suc, ℤ, ◌-◌, ◌<◌, ◌≤◌, ◌≡◌, ◌≢◌, Bool, true, false, ◌==◌, List, [], ◌∷◌, length, map, filter, reverse, drop, slice_get, Option, Some, None, Contains}
+use Rattle.std.specs.Prelude.{ℕ, suc, ℤ, ◌-◌, ◌<◌, ◌≤◌, ◌≡◌, ◌≢◌, Bool, true, false, ◌==◌, if◌then◌else◌, List, [], ◌∷◌, length, map, filter, drop, Option, Some, None, Contains}
 use Rattle.model_clock.specs.declared.state.ClockState.{ClockState}
 use Rattle.model_clock.specs.Clock.{changed}
 use Rattle.ptp_profile.specs.declared.roles.RoleOrder.{RoleOrder}
@@ -20,15 +20,16 @@ clock_after opening [] = opening
 clock_after opening (Order gener ctrl ∷ log) = clock_after opening log
 clock_after opening (Change gener ctrl tick step freq ∷ log) = changed (clock_after opening log) tick step freq
 
--- the log as it was after its first k entries
+-- the log as it was after its first k entries, or the whole where it has no more
 abbrev pub log_after : ℕ → List LogEntry → List LogEntry
 log_after k log = drop (length log - k) log
 
--- the entry with a number, where the first entry has the number 1
+-- the entry with a number: an entry's number is one more than the number of entries before it
 abbrev pub entry_at : ℕ → List LogEntry → Option LogEntry
-entry_at zero log = None
-entry_at (suc n) log = slice_get (reverse log) n
+entry_at n [] = None
+entry_at n (entry ∷ log) = if n == suc (length log) then Some entry else entry_at n log
 
+-- the entry is an order
 abbrev pub is_order : LogEntry → Bool
 is_order (Order gener ctrl) = true
 is_order (Change gener ctrl tick step freq) = false

@@ -76,20 +76,20 @@ is_dependent Uncalibrated = true
 is_dependent Slave = true
 
 -- one row of the table: the state after each event, the codes of the decision last (M1, M2 and M3 lead to one state, P1 and P2 to one)
-abbrev pub row : (fault cleared announce qualification selected synchronization stay m p s : PortState) → PortEvent → PortState
-row fault cleared announce qualification selected synchronization stay m p s FaultDetected = fault
-row fault cleared announce qualification selected synchronization stay m p s FaultCleared = cleared
-row fault cleared announce qualification selected synchronization stay m p s AnnounceTimeout = announce
-row fault cleared announce qualification selected synchronization stay m p s QualificationTimeout = qualification
-row fault cleared announce qualification selected synchronization stay m p s MasterClockSelected = selected
-row fault cleared announce qualification selected synchronization stay m p s SynchronizationFault = synchronization
-row fault cleared announce qualification selected synchronization stay m p s (Decided Stay) = stay
-row fault cleared announce qualification selected synchronization stay m p s (Decided M1) = m
-row fault cleared announce qualification selected synchronization stay m p s (Decided M2) = m
-row fault cleared announce qualification selected synchronization stay m p s (Decided M3) = m
-row fault cleared announce qualification selected synchronization stay m p s (Decided P1) = p
-row fault cleared announce qualification selected synchronization stay m p s (Decided P2) = p
-row fault cleared announce qualification selected synchronization stay m p s (Decided S1) = s
+abbrev pub row : (on_fault on_cleared on_announce on_qualification on_selected on_synchronization stay m p s : PortState) → PortEvent → PortState
+row on_fault on_cleared on_announce on_qualification on_selected on_synchronization stay m p s FaultDetected = on_fault
+row on_fault on_cleared on_announce on_qualification on_selected on_synchronization stay m p s FaultCleared = on_cleared
+row on_fault on_cleared on_announce on_qualification on_selected on_synchronization stay m p s AnnounceTimeout = on_announce
+row on_fault on_cleared on_announce on_qualification on_selected on_synchronization stay m p s QualificationTimeout = on_qualification
+row on_fault on_cleared on_announce on_qualification on_selected on_synchronization stay m p s MasterClockSelected = on_selected
+row on_fault on_cleared on_announce on_qualification on_selected on_synchronization stay m p s SynchronizationFault = on_synchronization
+row on_fault on_cleared on_announce on_qualification on_selected on_synchronization stay m p s (Decided Stay) = stay
+row on_fault on_cleared on_announce on_qualification on_selected on_synchronization stay m p s (Decided M1) = m
+row on_fault on_cleared on_announce on_qualification on_selected on_synchronization stay m p s (Decided M2) = m
+row on_fault on_cleared on_announce on_qualification on_selected on_synchronization stay m p s (Decided M3) = m
+row on_fault on_cleared on_announce on_qualification on_selected on_synchronization stay m p s (Decided P1) = p
+row on_fault on_cleared on_announce on_qualification on_selected on_synchronization stay m p s (Decided P2) = p
+row on_fault on_cleared on_announce on_qualification on_selected on_synchronization stay m p s (Decided S1) = s
 
 -- the state after an event, row by row (9.2.5, figure 30); is_new says that the best announcement comes from another sender than the
 -- parent. INITIALIZING and DISABLED are never entered, and FAULT_CLEARED leads straight to LISTENING (own)

@@ -19,12 +19,7 @@ use Rattle.ptp_profile.specs.declared.message.Body.TheVariants.{Sync as Sync_bod
 use Rattle.ptp_profile.specs.Identity.{is_same_port}
 use Rattle.ptp_profile.specs.Machine.{is_following, is_master, next, state_number}
 use Rattle.ptp_profile.specs.Timers.{Timers, no_timers, timer_at, with_timer, waiting_timers, sending_timers, following_timers, qualifying_timers, qualification_of, receipt_time, announce_interval, sync_interval, delay_interval}
-use Rattle.ptp_profile.specs.Sync.{Piece, One_step, Sync, Follow_up, given, delay_of, mean_of, measure_of}
-
--- a Delay_Req that was sent, and when by the port's clock
-pub record Request : Type 0 where
-  pub seq : ℕ
-  pub sent : ℤ
+use Rattle.ptp_profile.specs.Sync.{Piece, One_step, Sync, Follow_up, Request, given, answered, with_delay, mean_of, measure_of}
 
 pub record Port : Type 0 where
   pub id : PortId
@@ -141,10 +136,13 @@ triple_of message seen p = option_and_then (λ piece. given piece p.pieces) (pie
 abbrev pub takes_from : PortId → PortId → Port → Bool
 takes_from parent sender p = is_following p.state && is_same_port sender parent
 
--- the request that a Delay_Resp answers: of its sequence, and for this port (11.3.2)
-abbrev pub answered : Message → Body → Port → Option Request
-answered message (DelayResp receive requesting) p = option_and_then (λ (r : Request). if (r.seq == message.seq) && is_same_port requesting p.id then Some r else None) p.request
-answered message _ p = None
+-- the request of the port that a message answers
+abbrev pub answered_by : Message → Body → Port → Option Request
+answered_by message (DelayResp receive requesting) p = answered p.id message.seq requesting p.request
+answered_by message (Sync_body origin) p = None
+answered_by message (DelayReq origin) p = None
+answered_by message (FollowUp precise) p = None
+answered_by message (Announce origin said) p = None
 
 abbrev pub paired_fate : Option Triple → Fate
 paired_fate None = Waiting
@@ -159,24 +157,26 @@ abbrev pub timing_fate : PortId → Message → ℤ → Port → Body → Fate
 timing_fate parent message seen p (DelayReq origin) = if is_master p.state then Answered else Ignored
 timing_fate parent message seen p (Sync_body origin) = if takes_from parent message.sender p then paired_fate (triple_of message seen p) else Ignored
 timing_fate parent message seen p (FollowUp precise) = if takes_from parent message.sender p then paired_fate (triple_of message seen p) else Ignored
-timing_fate parent message seen p (DelayResp receive requesting) = if takes_from parent message.sender p then response_fate (answered message message.body p) else Ignored
+timing_fate parent message seen p (DelayResp receive requesting) = if takes_from parent message.sender p then response_fate (answered_by message message.body p) else Ignored
 timing_fate parent message seen p (Announce origin said) = Ignored
 
 -- one more Sync or Follow_Up
 abbrev pub with_piece : Message → ℤ → Port → Port
 with_piece message seen p = record p { pieces = option_to_list (piece_of message seen message.body) ++ p.pieces }
 
--- the delay that a response gives, where a triple is kept (11.3.2)
-abbrev pub with_delay : Message → Body → Option Request → Port → Port
-with_delay message (DelayResp receive requesting) (Some request) p =
-    record p { request = None; delays = option_to_list (option_map (λ t. delay_of t request.sent receive message.correction) p.triple) ++ p.delays }
-with_delay message body request p = p
+-- the delay that a response gives (11.3.2); the request is then given up
+abbrev pub with_response : Message → Body → Port → Port
+with_response message (DelayResp receive requesting) p = record p { request = None; delays = with_delay p.triple p.request receive message.correction p.delays }
+with_response message (Sync_body origin) p = p
+with_response message (DelayReq origin) p = p
+with_response message (FollowUp precise) p = p
+with_response message (Announce origin said) p = p
 
 -- the port after a message that is no Announce, with its fate
 abbrev pub after_timing : Message → ℤ → Fate → Port → Port
 after_timing message seen Waiting p = with_piece message seen p
 after_timing message seen Paired p = record (with_piece message seen p) { triple = triple_of message seen p }
-after_timing message seen Matched p = with_delay message message.body p.request p
+after_timing message seen Matched p = with_response message message.body p
 after_timing message seen _ p = p
 
 -- the measure that a message gives, with the mean over so many delays (11.2)

@@ -1,5 +1,5 @@
 -- What drives each clock, and the orders that say so (own).
-use Rattle.std.specs.Prelude.{ℕ, ◌+◌, ◌≤◌, Bool, true, false, ◌==◌, ◌&&◌, if◌then◌else◌, List, [], ◌∷◌, ◌++◌, map, Option, Some, None, option_map, unwrap_or, find, count_by}
+use Rattle.std.specs.Prelude.{ℕ, ◌+◌, ◌≤◌, Bool, true, false, ◌==◌, ◌&&◌, if◌then◌else◌, List, [], ◌∷◌, ◌++◌, map, Option, Some, None, option_map, unwrap_or, find, count_by, slice_index_or}
 use Rattle.std.specs.List.{zip, position_from, range_with_len}
 use Rattle.ptp_base.specs.declared.identity.PortId.{PortId}
 use Rattle.ptp_base.specs.declared.port.PortState.{PortState}
@@ -9,7 +9,7 @@ use Rattle.ptp_profile.specs.declared.roles.Lead.{Lead}
 use Rattle.ptp_profile.specs.declared.roles.Notice.{Notice}
 use Rattle.ptp_profile.specs.declared.roles.RoleOrder.{RoleOrder}
 use Rattle.ptp_profile.specs.Identity.{is_same_port}
-use Rattle.ptp_profile.specs.Machine.{is_slave, is_following}
+use Rattle.ptp_profile.specs.Machine.{is_following, is_slave}
 
 -- at most one port follows a master
 abbrev pub AtMostOneFollows : List PortState → Type 0
@@ -37,6 +37,10 @@ edge_by parent None None = None
 abbrev pub edges_of : ℕ → PortId → List PortState → List ℕ → List (Option Edge)
 edges_of clocks parent states port_clocks =
     map (λ clock. edge_by parent (port_on clock states port_clocks) (slave_clock states port_clocks)) (range_with_len 0 clocks)
+
+-- what drives a clock
+abbrev pub edge_at : List (Option Edge) → ℕ → Option Edge
+edge_at edges clock = slice_index_or edges clock None
 
 -- the same edge, its parent included
 abbrev pub is_same_edge : Option Edge → Option Edge → Bool
@@ -126,5 +130,6 @@ lead_by gener (Some (Port port parent)) = None
 lead_by gener (Some (Follow source)) = Some (record { gener = gener; source = source })
 
 -- what the follower of a clock is told: the present generation, the port in SLAVE, and what it copies by its clock's edge
-abbrev pub notice_of : ℕ → ℕ → List PortState → Option Edge → List RoleOrder → Notice
-notice_of gener clock states edge orders = record { gener = gener; slave = slave_port states; lead = lead_by (stamp_of clock orders).gener edge }
+abbrev pub notice_of : ℕ → ℕ → List PortState → List (Option Edge) → List RoleOrder → Notice
+notice_of gener clock states edges orders =
+    record { gener = gener; slave = slave_port states; lead = lead_by (stamp_of clock orders).gener (edge_at edges clock) }

@@ -1,4 +1,5 @@
 use Rattle.std.proofs.Common.{refl}
+use Rattle.ptp_profile.specs.Wire.{number_at, written}
 use Rattle.bc_history.specs.World.{status_after}
 use Rattle.bc_history.specs.Step.{step, state_of}
 use Rattle.bc_history.specs.Own.{owned}
@@ -9,5 +10,5 @@ use Rattle.bc_history.specs.Effects.{effects_of, entry_after}
 use Rattle.bc_history.proofs.examples.silent_ports.Goals as goal
 
 pub returns : goal.returns
-unfolding status_after step state_of owned decided heard generation told effects_of entry_after
+unfolding number_at written status_after step state_of owned decided heard generation told effects_of entry_after
 returns c = refl

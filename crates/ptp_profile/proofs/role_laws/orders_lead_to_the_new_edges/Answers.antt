@@ -1,0 +1,5 @@
+use Rattle.ptp_profile.proofs.OrderLemmas.{after-orders}
+use Rattle.ptp_profile.proofs.role_laws.orders_lead_to_the_new_edges.Goals as goal
+
+pub returns : goal.returns
+returns c = after-orders
