@@ -38,6 +38,6 @@ pub use timing_laws::{
     steering_is_gentle,
 };
 pub use wire_laws::{
-    decoded_is_what_is_read, examples_are_read, examples_are_written, free_octets, holds_numbers,
-    one_spelling,
+    decoded_is_what_is_read, examples_are_dropped, examples_are_read, examples_are_written,
+    free_octets, holds_numbers, one_spelling,
 };
