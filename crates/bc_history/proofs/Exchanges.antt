@@ -1,6 +1,6 @@
 -- What an exchange gives agrees with the log that it leaves.
-use Rattle.std.proofs.Common.{◌≡◌, ◌≢◌, ℕ, suc, ◌+◌, ◌-◌, ◌<◌, ◌≤◌, Bool, true, false, cond, eqb, leb, inl, inr, refl, sym, ap, ◌∙◌, List, [], ◌∷◌, ◌++◌, length, drop, arith, Some, pos}
-use Rattle.std.specs.Prelude.{not, ◌&&◌, nat_le, ◌==◌}
+use Rattle.std.proofs.Common.{◌≡◌, ◌≢◌, ℕ, suc, ◌+◌, ◌-◌, Bool, true, false, cond, eqb, leb, inl, inr, refl, sym, ap, ◌∙◌, List, ◌∷◌, ◌++◌, length, arith, Some, pos}
+use Rattle.std.specs.Prelude.{not, ◌&&◌}
 use Rattle.std.proofs.lemmas.Bool.{false≢true, eqb-true, eq-eqb, leb-true}
 use Rattle.std.proofs.lemmas.Bool.Decides.{eqb_tells}
 use Rattle.ptp_profile.specs.declared.timing.Action.{Action}
@@ -8,10 +8,10 @@ use Rattle.ptp_profile.specs.declared.timing.Action.TheVariants.{Unlocked as Unl
 use Rattle.ptp_profile.specs.declared.seats.Held.{Held}
 use Rattle.ptp_profile.specs.declared.seats.LogEntry.{LogEntry}
 use Rattle.ptp_profile.specs.declared.seats.LogEntry.TheVariants.{Change}
-use Rattle.ptp_profile.specs.Logs.{IsChanged, IsSuperseded, IsSpent, stamp_after, log_after, entry_at, change_of}
+use Rattle.ptp_profile.specs.Logs.{IsSuperseded, stamp_after, log_after, entry_at}
 use Rattle.bc_history.specs.declared.entry.Outcome.{Outcome}
-use Rattle.bc_history.specs.declared.entry.Outcome.TheVariants.{Unlocked, Changed, Superseded, Spent}
-use Rattle.bc_history.specs.Outcomes.{Agrees, IsHolder, IsChangeBy}
+use Rattle.bc_history.specs.declared.entry.Outcome.TheVariants.{Changed, Superseded, Spent}
+use Rattle.bc_history.specs.Outcomes.{Agrees, IsHolder}
 use Rattle.bc_history.specs.World.{exchanged, change_by}
 
 log_after-all : (log : List LogEntry) → log_after (length log) log ≡ log

@@ -1,6 +1,5 @@
 -- Moments along a history, and what follows its end.
-use Rattle.std.proofs.Common.{◌≡◌, ℕ, ◌≤◌, Bool, true, false, cond, refl, sym, ap, ◌∙◌, max, List, [], ◌∷◌, arith}
-use Rattle.ptp_base.specs.declared.announcement.Announcement.{Announcement}
+use Rattle.std.proofs.Common.{◌≡◌, ◌≤◌, Bool, true, false, cond, refl, ap, ◌∙◌, max, List, ◌∷◌, arith}
 use Rattle.bc_history.specs.declared.entry.Entry.{Entry}
 use Rattle.bc_history.specs.declared.entry.Input.{Input}
 use Rattle.bc_history.specs.declared.scenario.Options.{Options}
@@ -8,12 +7,11 @@ use Rattle.bc_history.specs.declared.scenario.Scenario.{Scenario}
 use Rattle.bc_history.specs.State.{Event, Core, State}
 use Rattle.bc_history.specs.Inputs.{event_of, tick_of}
 use Rattle.bc_history.specs.Opening.{own_of}
-use Rattle.bc_history.specs.Own.{owned, fate_at, moment_after}
-use Rattle.bc_history.specs.Deciding.{decided, heard, raised, ruled, raises, is_kept, best_among}
+use Rattle.bc_history.specs.Own.{owned, fate_at}
+use Rattle.bc_history.specs.Deciding.{decided, heard, raises, is_kept, best_among}
 use Rattle.bc_history.specs.Step.{step, core_after, state_of}
 use Rattle.bc_history.specs.Effects.{entry_after, event}
-use Rattle.bc_history.specs.Next.{IsDue}
-use Rattle.bc_history.specs.History.{Follows, Continues, IsHistory, IsFinished}
+use Rattle.bc_history.specs.History.{Follows, IsHistory, IsFinished}
 
 if_heard : (b : Bool) (input : Input) (c : Core) → (cond b (heard input c) c).moment ≡ c.moment
 unfolding heard

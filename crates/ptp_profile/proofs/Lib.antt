@@ -14,3 +14,4 @@ pub mod MemberLemmas
 pub mod SenderLemmas
 pub mod CodeLemmas
 pub mod CoherenceLemmas
+pub mod GrantLemmas

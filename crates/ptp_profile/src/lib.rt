@@ -24,10 +24,11 @@ pub use role_laws::{
     a_change_bears_the_stamp_in_force, a_changed_clock_is_taken_and_given,
     a_generation_has_few_orders, a_lawful_log_has_the_last_stamp, a_new_parent_is_a_new_edge,
     a_part_of_a_forest_is_one, a_port_drives_the_other_clock, a_port_without_lock_keeps_its_clock,
-    an_old_holder_is_superseded, copying_in_a_circle_is_no_forest, edges_make_a_forest,
-    entries_are_numbered_from_one, lawful_logs_grow, one_port_drives_all_clocks,
-    one_port_takes_over, orders_lead_to_the_new_edges, orders_leave_forests, orders_leave_parts,
-    roles_change_sides, stamps_have_the_controllers, the_same_edges_are_equal, two_logs_are_lawful,
+    a_stamp_was_ordered, an_old_holder_is_superseded, copying_in_a_circle_is_no_forest,
+    edges_make_a_forest, entries_are_numbered_from_one, lawful_logs_grow,
+    one_port_drives_all_clocks, one_port_takes_over, orders_lead_to_the_new_edges,
+    orders_leave_forests, orders_leave_parts, roles_change_sides, stamps_have_the_controllers,
+    the_same_edges_are_equal, two_logs_are_lawful,
 };
 pub use roles::{Edge, Lead, Notice, RoleOrder};
 pub use seats::{Held, Log, LogEntry, Reading, Receipt, Refused};
