@@ -14,7 +14,7 @@ abbrev pub message_by : ℕ → PortId → ℕ → ℕ → ℤ → ℤ → Body 
 message_by domain sender flags seq correction interval body =
     record { domain = domain; flags = flags; correction = correction; sender = sender; seq = seq; log_interval = interval; body = body }
 
--- an Announce says what the data sets say (9.5.3, table 26)
+-- an Announce says what the data sets say (9.5.8)
 abbrev pub announce_by : ℕ → Master → Port → Message
 announce_by domain master p =
     message_by domain p.id master.time.flags (p.announces % 65536) (pos 0) p.conf.log_announce
@@ -32,7 +32,7 @@ follow_up_by domain seen p = message_by domain p.id 0 (p.syncs % 65536) (pos 0) 
 abbrev pub delay_request_by : ℕ → Port → Message
 delay_request_by domain p = message_by domain p.id 0 (p.requests % 65536) (pos 0) (pos 0x7F) (DelayReq (pos 0))
 
--- a Delay_Resp has the sequence and the correction of its request, the reading, and the request's sender (11.3.2)
+-- a Delay_Resp has the sequence and the correction of its request, the reading, and the request's sender (9.5.12, 11.3.2)
 abbrev pub delay_response_by : ℕ → ℤ → Message → Port → Message
 delay_response_by domain seen request p = message_by domain p.id 0 request.seq request.correction p.conf.log_delay (DelayResp seen request.sender)
 

@@ -30,7 +30,7 @@ delay_interval conf = interval_of conf.log_delay
 abbrev pub receipt_time : PortConf → ℕ
 receipt_time conf = conf.receipt * announce_interval conf
 
--- how long an Announce counts for qualification: four announce intervals (9.3.2.4.5)
+-- how long an Announce counts for qualification: four announce intervals (9.3.2.4)
 abbrev pub window_of : PortConf → ℕ
 window_of conf = 4 * announce_interval conf
 
