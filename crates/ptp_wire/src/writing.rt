@@ -102,7 +102,7 @@ fn body_put(body: &Body, out: &mut [u8]) -> usize
     }
 }
 
-// The header of a message, with messageType and controlField by its body (13.3, tables 36 and 42).
+// The header of a message, with messageType and controlField by its body (13.3).
 fn head_of(m: &Message) -> Head
     ensures { result ≡ head_of m.now }
 {
