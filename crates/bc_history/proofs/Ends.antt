@@ -1,8 +1,8 @@
 -- A scenario ends in one way.
-use Rattle.std.proofs.Common.{◌≡◌, ℕ, zero, suc, ◌+◌, ◌-◌, ◌≤◌, sym, ap, ◌∙◌, refl, arith, inl, inr}
+use Rattle.std.proofs.Common.{◌≡◌, ℕ, zero, suc, ◌+◌, ◌-◌, ◌≤◌, sym, ap, ◌∙◌, arith, inl, inr}
 use Rattle.std.proofs.lemmas.Bool.{cases_lt}
 use Rattle.bc_history.specs.declared.scenario.Scenario.{Scenario}
-use Rattle.bc_history.specs.World.{End, Status, Going, Ended, turned, status_after, IsEnd}
+use Rattle.bc_history.specs.World.{End, Ended, turned, status_after, IsEnd}
 
 -- what ended stays so
 stays_ended : (s : Scenario) (n k : ℕ) (end : End) → status_after s n ≡ Ended end → status_after s (n + k) ≡ Ended end

@@ -1,5 +1,5 @@
 -- At most one port follows, after every history.
-use Rattle.std.proofs.Common.{◌≡◌, ℕ, zero, suc, ℤ, ◌+◌, ◌<◌, ◌≤◌, Bool, true, false, cond, refl, sym, ap, ◌∙◌, eqb, arith, List, [], ◌∷◌, map, Option, Some, None, Result, Ok, Err, subst}
+use Rattle.std.proofs.Common.{◌≡◌, ℕ, zero, suc, ℤ, ◌+◌, ◌<◌, ◌≤◌, Bool, true, false, cond, refl, sym, ap, ◌∙◌, eqb, arith, List, [], ◌∷◌, map, Option, Some, None, Result, Ok, Err}
 use Rattle.std.specs.Prelude.{count_by, ◌&&◌}
 use Rattle.std.proofs.lemmas.Bool.{false≢true, eqb-true}
 use Rattle.std.proofs.lemmas.List.Sums.{sum_by-cons}
@@ -22,9 +22,9 @@ use Rattle.ptp_profile.specs.declared.message.Body.{Body}
 use Rattle.ptp_profile.specs.declared.message.Body.TheVariants.{Sync, DelayReq, FollowUp, DelayResp, Announce}
 use Rattle.ptp_profile.specs.declared.roles.RoleOrder.{RoleOrder}
 use Rattle.ptp_profile.specs.Machine.{is_following, is_dependent, next, state_number}
-use Rattle.ptp_profile.specs.Decision.{code_of, is_received_on}
+use Rattle.ptp_profile.specs.Decision.{is_received_on}
 use Rattle.ptp_profile.specs.Roles.{Stamp, stamp_of, AtMostOneFollows}
-use Rattle.ptp_profile.specs.Port.{Port, after_event, entered, uncalibrated, gets_parent, cleared, renewed, flushed, fired, is_set_for, after_timing, with_response}
+use Rattle.ptp_profile.specs.Port.{Port, after_event, entered, uncalibrated, gets_parent, cleared, renewed, fired, is_set_for, after_timing, with_response}
 use Rattle.bc_history.specs.declared.entry.Input.{Input}
 use Rattle.bc_history.specs.declared.entry.Input.TheVariants.{Frame, Timed, Down, Up, Report, Turn, Sampled, Query}
 use Rattle.bc_history.specs.declared.entry.Outcome.{Outcome}
@@ -35,9 +35,9 @@ use Rattle.bc_history.specs.declared.scenario.Options.{Options}
 use Rattle.bc_history.specs.declared.scenario.Scenario.{Scenario}
 use Rattle.bc_history.specs.State.{Event, HubPort, Core, State}
 use Rattle.bc_history.specs.Inputs.{changed_at, at_port, port_of, event_of, value_of}
-use Rattle.bc_history.specs.Opening.{opening, open_ports, own_port, own_of}
-use Rattle.bc_history.specs.Own.{owned, own_step, own_event, acted, reset_by, took, took_frame, with_frame, with_message, with_kept, jumped, counts, read_frame, frame_fate, timer_event, report_event, moment_after, fate_at}
-use Rattle.bc_history.specs.Deciding.{decided, decided_port, code_with, best_of, best_among, master_among, heard, renewed_by, raised, ruled, raises, is_kept, is_new_parent, is_sent_by, newest_sender}
+use Rattle.bc_history.specs.Opening.{open_ports, own_of}
+use Rattle.bc_history.specs.Own.{owned, own_step, own_event, acted, reset_by, took, with_frame, with_message, with_kept, jumped, counts, read_frame, frame_fate, timer_event, report_event, moment_after, fate_at}
+use Rattle.bc_history.specs.Deciding.{decided, decided_port, code_with, best_of, best_among, master_among, heard, renewed_by, raises, is_kept, is_new_parent, is_sent_by, newest_sender}
 use Rattle.bc_history.specs.Generations.{states_of}
 use Rattle.bc_history.specs.Step.{step, core_after, state_of}
 use Rattle.bc_history.proofs.States.{state-after_event, keeps_to_itself, IsOwnEvent, follows_best}

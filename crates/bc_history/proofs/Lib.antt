@@ -1,4 +1,5 @@
 pub mod States
 pub mod Following
 pub mod Ends
-pub mod SilentWorld
+pub mod Exchanges
+pub mod Histories

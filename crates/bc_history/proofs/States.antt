@@ -11,7 +11,7 @@ use Rattle.ptp_profile.specs.declared.port.PortEvent.{PortEvent}
 use Rattle.ptp_profile.specs.declared.port.PortEvent.TheVariants.{FaultDetected, FaultCleared, AnnounceTimeout, QualificationTimeout, MasterClockSelected, SynchronizationFault, Decided}
 use Rattle.ptp_profile.specs.Machine.{is_following, next, state_number}
 use Rattle.ptp_profile.specs.Decision.{code_of, decided_code, is_received_on, never_follows, wins_against, wins_by_topology}
-use Rattle.ptp_profile.specs.Port.{Port, after_event, entered, uncalibrated, gets_parent, is_following_code, cleared, renewed}
+use Rattle.ptp_profile.specs.Port.{Port, after_event, entered, uncalibrated, gets_parent, cleared, renewed}
 
 -- the state that a number is of
 state_by : ℕ → PortState

@@ -1,6 +1,5 @@
 -- Scenarios and frames of the worked examples.
-use Rattle.std.specs.Prelude.{ℕ, zero, suc, ℤ, pos, List, [], ◌∷◌, ◌+◌, ◌++◌, map, flat_map, filter_map, option_map, length, take, replicate, ◌*◌, Option, Some, None, true, false}
-use Rattle.ptp_base.specs.declared.identity.PortId.{PortId}
+use Rattle.std.specs.Prelude.{ℕ, pos, List, [], ◌∷◌, ◌+◌, ◌++◌, map, flat_map, filter_map, option_map, length, take, ◌*◌, Option, Some, None, true}
 use Rattle.ptp_base.specs.declared.port.PortState.{PortState}
 use Rattle.ptp_base.specs.declared.port.PortState.TheVariants.{Listening, Master}
 use Rattle.ptp_profile.specs.declared.port.Timer.TheVariants.{AnnounceReceipt}
@@ -14,7 +13,7 @@ use Rattle.ptp_profile.specs.declared.seats.LogEntry.{LogEntry}
 use Rattle.bc_history.specs.declared.scenario.Record.{Record}
 use Rattle.bc_history.specs.declared.scenario.Turner.TheVariants.{Default, Port as Port_turn}
 use Rattle.bc_history.specs.declared.scenario.Happening.TheVariants.{Frame as Frame_record, Down as Down_record}
-use Rattle.bc_history.specs.Silent.{default_options, plain_clock, plain_port, silent}
+use Rattle.bc_history.specs.Silent.{default_options, plain_clock, plain_port}
 use Rattle.bc_history.specs.World.{Status, Going, Ended, Finished, Not_due, Events, status_after}
 use Rattle.bc_history.specs.declared.entry.Input.{Input}
 use Rattle.bc_history.specs.declared.entry.Input.TheVariants.{Frame, Timed, Down, Up, Report, Turn, Sampled, Query}

@@ -1,5 +1,5 @@
 -- Which histories a scenario has, the newest entry first.
-use Rattle.std.specs.Prelude.{ℕ, ◌≤◌, ◌≡◌, List, [], ◌∷◌, length}
+use Rattle.std.specs.Prelude.{◌≤◌, ◌≡◌, List, [], ◌∷◌, length}
 use Rattle.bc_history.specs.declared.entry.Entry.{Entry}
 use Rattle.bc_history.specs.declared.entry.Input.{Input}
 use Rattle.bc_history.specs.declared.scenario.Scenario.{Scenario}

@@ -4,7 +4,7 @@ use Rattle.bc_history.specs.declared.entry.Input.{Input}
 use Rattle.bc_history.specs.declared.entry.Input.TheVariants.{Frame, Timed, Down, Up, Report, Turn, Sampled, Query}
 use Rattle.bc_history.specs.declared.entry.Seen.{Seen}
 use Rattle.bc_history.specs.declared.entry.Entry.{Entry}
-use Rattle.bc_history.specs.State.{Event, HubPort}
+use Rattle.bc_history.specs.State.{Event}
 
 abbrev pub tick_of : Input → ℕ
 tick_of (Frame port tick octets) = tick

@@ -9,6 +9,7 @@ pub mod Step
 pub mod Effects
 pub mod Next
 pub mod History
+pub mod Outcomes
 pub mod World
 pub mod Silent
 pub mod Examples

@@ -1,5 +1,5 @@
 -- Which input an actor has next after a history, and whether it is due.
-use Rattle.std.specs.Prelude.{ℕ, ◌+◌, ◌*◌, ◌≤◌, ◌≡◌, ◌==◌, nat_lt, if◌then◌else◌, List, [], ◌∷◌, filter, slice_get, Option, Some, None, IsSomeAnd}
+use Rattle.std.specs.Prelude.{ℕ, ◌+◌, ◌*◌, ◌≤◌, ◌≡◌, ◌==◌, nat_lt, if◌then◌else◌, List, filter, slice_get, Option, Some, None, IsSomeAnd}
 use Rattle.ptp_profile.specs.declared.port.Timer.{Timer}
 use Rattle.ptp_profile.specs.Timers.{due_of}
 use Rattle.bc_history.specs.declared.entry.Input.{Input}

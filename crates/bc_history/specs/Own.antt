@@ -1,5 +1,5 @@
 -- The first phase of an entry: its input, and the event that it is for its own port.
-use Rattle.std.specs.Prelude.{ℕ, ℤ, ◌%◌, max, Bool, true, false, not, ◌==◌, ◌&&◌, if◌then◌else◌, List, [], ◌∷◌, bit_and, ◌+◌, Option, Some, None, option_map, option_and_then, Result, Ok, Err}
+use Rattle.std.specs.Prelude.{ℕ, ℤ, ◌%◌, max, Bool, false, not, ◌==◌, ◌&&◌, if◌then◌else◌, List, [], ◌∷◌, bit_and, ◌+◌, Option, Some, None, option_map, option_and_then, Result, Ok, Err}
 use Rattle.ptp_base.specs.declared.identity.PortId.{PortId}
 use Rattle.ptp_base.specs.declared.announcement.Announcement.{Announcement}
 use Rattle.ptp_profile.specs.declared.message.Message.{Message}
@@ -17,7 +17,6 @@ use Rattle.ptp_profile.specs.declared.timing.Action.{Action}
 use Rattle.ptp_profile.specs.declared.timing.Action.TheVariants.{Unlocked as Unlocked_action, Jump, Locked}
 use Rattle.ptp_profile.specs.declared.timing.Measure.{Measure}
 use Rattle.ptp_profile.specs.declared.roles.RoleOrder.{RoleOrder}
-use Rattle.ptp_profile.specs.declared.foreign.KeptAnnounce.{KeptAnnounce}
 use Rattle.ptp_profile.specs.Wire.{decoded}
 use Rattle.ptp_profile.specs.Machine.{is_faulty, is_dependent}
 use Rattle.ptp_profile.specs.Timers.{window_of}

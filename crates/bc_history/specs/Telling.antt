@@ -1,5 +1,5 @@
 -- The fourth phase of an entry: what the followers are told (own, after phc2sys).
-use Rattle.std.specs.Prelude.{ℕ, ◌+◌, ◌-◌, Bool, not, ◌==◌, nat_le, nat_lt, if◌then◌else◌, List, [], ◌∷◌, slice_get, Option, Some, None, option_map, option_and_then}
+use Rattle.std.specs.Prelude.{ℕ, ◌+◌, ◌-◌, Bool, not, ◌==◌, nat_le, nat_lt, if◌then◌else◌, List, [], ◌∷◌, Option, Some, None, option_map, option_and_then}
 use Rattle.ptp_profile.specs.declared.roles.Notice.{Notice}
 use Rattle.ptp_profile.specs.declared.roles.Lead.{Lead}
 use Rattle.ptp_profile.specs.Roles.{notice_of}

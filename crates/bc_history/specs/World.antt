@@ -1,5 +1,5 @@
 -- The run that a list of turns gives: one actor takes one step at a time.
-use Rattle.std.specs.Prelude.{ℕ, zero, suc, ℤ, pos, ◌+◌, ◌-◌, ◌*◌, ◌-ℤ◌, ◌≡◌, ◌≤◌, Bool, true, false, not, ◌==◌, ◌&&◌, nat_le, nat_lt, if◌then◌else◌, List, [], ◌∷◌, ◌++◌, length, map, filter, filter_map, fold, slice_get, Option, Some, None, option_map, option_and_then, reverse}
+use Rattle.std.specs.Prelude.{ℕ, zero, suc, ℤ, pos, ◌+◌, ◌-◌, ◌-ℤ◌, ◌≡◌, Bool, true, false, not, ◌==◌, ◌&&◌, nat_le, nat_lt, if◌then◌else◌, List, [], ◌∷◌, ◌++◌, length, map, filter, filter_map, fold, slice_get, replicate, Option, Some, None, option_map, option_and_then, reverse}
 use Rattle.ptp_base.specs.Floor.{ns_of}
 use Rattle.model_clock.specs.declared.state.ClockState.{ClockState}
 use Rattle.model_clock.specs.Clock.{reading}
@@ -16,7 +16,7 @@ use Rattle.ptp_profile.specs.Servo.{Sample, newest_action}
 use Rattle.ptp_profile.specs.Logs.{clock_after, stamp_after}
 use Rattle.bc_history.specs.declared.entry.Entry.{Entry}
 use Rattle.bc_history.specs.declared.entry.Input.{Input}
-use Rattle.bc_history.specs.declared.entry.Input.TheVariants.{Frame, Timed, Down, Up, Report, Turn, Sampled, Query}
+use Rattle.bc_history.specs.declared.entry.Input.TheVariants.{Report, Turn, Sampled, Query}
 use Rattle.bc_history.specs.declared.entry.Outcome.{Outcome}
 use Rattle.bc_history.specs.declared.entry.Outcome.TheVariants.{Unlocked, Changed, Superseded, Spent}
 use Rattle.bc_history.specs.declared.entry.Seen.{Seen}
@@ -67,7 +67,7 @@ world_opening s = record {
   entries = [];
   logs = map (λ (c : ClockState). []) s.clocks;
   ports = map (λ c. Waits) s.ports;
-  followers = if nat_le 2 (length s.clocks) then map (λ (c : ClockState). Turns_next) s.clocks else [];
+  followers = replicate (follower_count s) Turns_next;
 }
 
 -- ---- clocks and their logs

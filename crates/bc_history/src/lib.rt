@@ -14,7 +14,9 @@ pub use examples::{
     class_decides, follows_a_master, follows_on_one_clock, frames_pair, handed_over, log_is_full,
     master_sends, qualification_waits, silent_ports, told_too_late, two_announces_qualify,
 };
-pub use laws::{at_most_one_follows, has_one_end};
+pub use laws::{
+    at_most_one_follows, exchanges_agree, has_one_end, moments_never_fall, nothing_follows_the_end,
+};
 pub use scenario::{
     Asked, AskedList, ClockStates, Happening, Options, PortConfs, Record, RecordList, Scenario,
     Turner, Turns, TurnsList,

@@ -39,5 +39,5 @@ reading-less s tick later freq drift order =
     let more = counted-less (s.drift +ℤ s.freq) (tick - s.tick) ((later - s.tick) - (tick - s.tick)) rate in
     let more' : counted (s.drift +ℤ s.freq) (tick - s.tick) ≤ℤ counted (s.drift +ℤ s.freq) (later - s.tick) = rw whole at more in
     let times : (s.time +ℤ counted (s.drift +ℤ s.freq) (tick - s.tick)) ≤ℤ (s.time +ℤ counted (s.drift +ℤ s.freq) (later - s.tick)) =
-        omega (arith, ints, more') in
+    omega (arith, ints, more') in
     held_time-less _ _ times

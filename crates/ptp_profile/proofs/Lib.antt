@@ -9,3 +9,9 @@ pub mod WireFree
 pub mod WireReading
 pub mod ServoLemmas
 pub mod MedianLemmas
+pub mod BestLemmas
+pub mod MemberLemmas
+pub mod SenderLemmas
+pub mod CodeLemmas
+pub mod CoherenceLemmas
+pub mod GrantLemmas

@@ -1,5 +1,5 @@
 -- Which of two announcements is better (IEEE 1588-2019, 9.3.4).
-use Rattle.std.specs.Prelude.{ℕ, ◌+◌, Bool, true, false, ◌==◌, nat_lt, if◌then◌else◌}
+use Rattle.std.specs.Prelude.{◌+◌, Bool, true, false, ◌==◌, nat_lt, if◌then◌else◌}
 use Rattle.std.specs.Ordering.{nat_cmp, ordering_then}
 use Rattle.std.specs.declared.cmp.Ordering.{Ordering}
 use Rattle.std.specs.declared.cmp.Ordering.TheVariants.{Less, Equal, Greater}
@@ -32,13 +32,15 @@ lower_is_better Greater = BBetter
 abbrev pub by_master : Announcement → Announcement → Order
 by_master a b = lower_is_better (master_cmp a b)
 
--- a has one step less: so much better it is where the receiver of b is below, at or above the sender of b (9.3.4, figure 35)
+-- a has one step less: it is better, the same or better by topology where the receiver of b is below, at or above the sender of b
+-- (9.3.4, figure 35)
 abbrev pub a_is_nearer : Ordering → Order
 a_is_nearer Less = ABetter
 a_is_nearer Equal = Same
 a_is_nearer Greater = ATopo
 
--- b has one step less: so much better it is where the receiver of a is below, at or above the sender of a (9.3.4, figure 35)
+-- b has one step less: it is better, the same or better by topology where the receiver of a is below, at or above the sender of a
+-- (9.3.4, figure 35)
 abbrev pub b_is_nearer : Ordering → Order
 b_is_nearer Less = BBetter
 b_is_nearer Equal = Same
@@ -54,7 +56,8 @@ lower_is_nearer Greater = BTopo
 abbrev pub ends_cmp : Announcement → Announcement → Ordering
 ends_cmp a b = ordering_then (port_cmp a.sender b.sender) (nat_cmp a.receiver.port b.receiver.port)
 
--- one grandmaster: fewer steps by two or more are better, by one are better or better by topology, and equal steps go by the ends (9.3.4, figure 35)
+-- one grandmaster: fewer steps by two or more are better, fewer by one are better or better by topology, and equal steps go by the ends
+-- (9.3.4, figure 35)
 abbrev pub by_path : Announcement → Announcement → Order
 by_path a b =
     if nat_lt (a.steps + 1) b.steps then ABetter

@@ -26,7 +26,7 @@ abbrev pub is_received_on : ℕ → Option Announcement → Bool
 is_received_on p None = false
 is_received_on p (Some a) = a.receiver.port == p
 
--- the own clock is of class 1 to 127 (9.3.3)
+-- the own clock is of class 1 to 127, and so none of its ports becomes a slave (9.3.3)
 abbrev pub never_follows : Announcement → Bool
 never_follows own = nat_le 1 own.quality.class && nat_le own.quality.class 127
 

@@ -25,13 +25,13 @@ is_in_window w m h = nat_lt m (h.at + w) && nat_le h.at m
 abbrev pub count_from : ℕ → ℕ → PortId → List KeptAnnounce → ℕ
 count_from w m sender kept = count_by (λ h. is_from sender h && is_in_window w m h) kept
 
--- where a sender stands before, at or after the first of the others: in front, nowhere anew, or further on
+-- a sender among rising others, by its comparison with the first of them: it goes in front, it is there already, or it goes further on
 abbrev pub placed : PortId → PortId → List PortId → List PortId → Ordering → List PortId
 placed s t ts further Less = s ∷ t ∷ ts
 placed s t ts further Equal = t ∷ ts
 placed s t ts further Greater = t ∷ further
 
--- rising senders with one more, which stands there once
+-- rising senders and one more, which then is there once
 abbrev pub with_sender : PortId → List PortId → List PortId
 with_sender s [] = s ∷ []
 with_sender s (t ∷ ts) = placed s t ts (with_sender s ts) (port_cmp s t)
@@ -47,7 +47,9 @@ present w m kept = filter (λ s. nat_le 1 (count_from w m s kept)) (senders kept
 
 -- a sender's record: its latest kept Announce, where two or more of its kept ones are in the window (9.3.2.5)
 abbrev pub record_of : ℕ → ℕ → List KeptAnnounce → PortId → Option Announcement
-record_of w m kept sender = if nat_le 2 (count_from w m sender kept) then option_map (λ (h : KeptAnnounce). h.said) (find (is_from sender) kept) else None
+record_of w m kept sender =
+    if nat_le 2 (count_from w m sender kept) then option_map (λ (h : KeptAnnounce). h.said) (find (is_from sender) kept)
+    else None
 
 -- the qualified set: the senders' records, in rising sender identity (9.3.2.5)
 abbrev pub qualified : ℕ → ℕ → List KeptAnnounce → List Announcement
@@ -62,11 +64,12 @@ better (Some b) a = if wins a b then Some a else Some b
 abbrev pub winner : List Announcement → Option Announcement
 winner all = fold better None all
 
--- Erbest: the winner of one pass over the qualified set in rising sender identity (9.3.2.3; the order of the pass is own)
+-- Erbest: the winner of one pass over the qualified set in rising sender identity (9.3.2; the order of the pass is own)
 abbrev pub erbest : ℕ → ℕ → List KeptAnnounce → Option Announcement
 erbest w m kept = winner (qualified w m kept)
 
--- Ebest: the winner of one pass over the ports' best in rising port number; a port without one counts for nothing (9.3.2.2; the order of the pass is own)
+-- Ebest: the winner of one pass over the ports' best in rising port number, without the ports that have none
+-- (9.3.2; the order of the pass is own)
 abbrev pub ebest : List (Option Announcement) → Option Announcement
 ebest bests = winner (filter_map (λ best. best) bests)
 
@@ -74,7 +77,8 @@ ebest bests = winner (filter_map (λ best. best) bests)
 abbrev pub is_crowded : ℕ → ℕ → List KeptAnnounce → PortId → Bool
 is_crowded w m kept sender = (count_from w m sender kept == 0) && nat_le 16 (length (present w m kept))
 
--- what becomes of an Announce that is heard at m: the first of own, far, alternate and crowded that holds, else it is kept (9.3.2.5; crowded is own)
+-- what becomes of an Announce that is heard at m: the first of own, far, alternate and crowded that holds, else it is kept
+-- (9.3.2.5; crowded is own)
 abbrev pub hearing_of : ℕ → ℕ → List KeptAnnounce → Announcement → Heard
 hearing_of w m kept a =
     if a.sender.clock.id == a.receiver.clock.id then Own

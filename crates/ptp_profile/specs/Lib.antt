@@ -16,3 +16,5 @@ pub mod Frames
 pub mod Roles
 pub mod Forest
 pub mod Logs
+pub mod BestLaws
+pub mod BestExamples

@@ -1,5 +1,5 @@
 -- One port: its state, its timers, and what it keeps of the messages of its parent (IEEE 1588-2019, 9.2, 9.5 and 11.3).
-use Rattle.std.specs.Prelude.{ℕ, ℤ, ◌+◌, ◌%◌, ◌==◌, ◌&&◌, Bool, true, false, if◌then◌else◌, List, [], ◌++◌, bit_and, Option, Some, None, option_map, option_and_then, option_to_list}
+use Rattle.std.specs.Prelude.{ℕ, ℤ, ◌+◌, ◌%◌, ◌==◌, ◌&&◌, Bool, true, false, if◌then◌else◌, List, [], ◌++◌, bit_and, Option, Some, None, option_and_then, option_to_list}
 use Rattle.ptp_base.specs.declared.identity.PortId.{PortId}
 use Rattle.ptp_base.specs.declared.triple.Triple.{Triple}
 use Rattle.ptp_base.specs.declared.decision.Code.TheVariants.{S1}

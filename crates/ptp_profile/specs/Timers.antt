@@ -1,5 +1,5 @@
 -- The timers of a port, and what each state sets (IEEE 1588-2019, 9.2.6 and 9.5; the moments at which they are set are own).
-use Rattle.std.specs.Prelude.{ℕ, ◌+◌, ◌*◌, nat_lt, if◌then◌else◌, List, [], ◌∷◌, ◌++◌, fold, filter_map, option_map, Option, Some, None}
+use Rattle.std.specs.Prelude.{ℕ, ◌+◌, ◌*◌, nat_lt, if◌then◌else◌, List, [], ◌∷◌, fold, filter_map, option_map, Option, Some, None}
 use Rattle.ptp_base.specs.declared.port.PortConf.{PortConf}
 use Rattle.ptp_base.specs.declared.decision.Code.TheVariants.{M3}
 use Rattle.ptp_base.specs.Floor.{interval_of}

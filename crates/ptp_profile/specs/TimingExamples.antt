@@ -10,12 +10,12 @@ use Rattle.ptp_profile.specs.Sync.{Piece, Sync, Follow_up, Request}
 
 -- pieces of which only the sequence matters
 abbrev pub sync : ℕ → Piece
-sync seq = Sync seq (pos 110) (negsuc 0)
+sync seq = Sync seq (pos 110) (pos 2)
 
 abbrev pub follow_up : ℕ → Piece
-follow_up seq = Follow_up seq (pos 100) (pos 0)
+follow_up seq = Follow_up seq (pos 100) (negsuc 2)
 
--- what a Sync and a Follow_Up of one sequence give: sent at 100 ns, arrived at 110 ns, with a correction of -1
+-- what a Sync and a Follow_Up of one sequence give: sent at 100 ns, arrived at 110 ns, with corrections of 2 and of -3
 abbrev pub example_triple : Triple
 example_triple = record { origin = pos 100; arrived = pos 110; correction = negsuc 0 }
 
@@ -33,9 +33,9 @@ example_request = record { seq = 5; sent = pos 200 }
 abbrev pub example_servo : ServoConf
 example_servo = record { kp = 700; ki = 300; max = 1000; step = 0; first_step = 20000 }
 
--- the same, and any offset beyond 5,000 ns is a step
-abbrev pub stepping_servo : ServoConf
-stepping_servo = record example_servo { step = 5000 }
+-- the same, and any offset beyond so many ns is a step
+abbrev pub stepping_servo : ℕ → ServoConf
+stepping_servo threshold = record example_servo { step = threshold }
 
 -- an offset after so many seconds, in a generation that began at a frequency
 abbrev pub sample_in : ℕ → ℤ → ℤ → ℕ → Sample

@@ -1,8 +1,12 @@
 -- Worked examples of messages: an Announce, a Sync and a Delay_Resp of one master, and a Follow_Up, octet by octet.
-use Rattle.std.specs.Prelude.{ℕ, pos, negsuc, List, [], ◌∷◌}
+use Rattle.std.specs.Prelude.{ℕ, ◌+◌, pos, negsuc, List, [], ◌∷◌, ◌++◌, length, take, drop}
 use Rattle.ptp_base.specs.declared.identity.PortId.{PortId}
 use Rattle.ptp_profile.specs.declared.message.Message.{Message}
 use Rattle.ptp_profile.specs.declared.message.Body.TheVariants.{Sync, FollowUp, DelayResp, Announce}
+
+-- octets with others in their place from a place on
+abbrev pub with_octets : ℕ → List ℕ → List ℕ → List ℕ
+with_octets at these octets = take at octets ++ these ++ drop (at + length these) octets
 
 -- the master's port, and the port that it answers
 abbrev pub master_port : PortId

@@ -2,6 +2,7 @@
 //! data types that these speak of.
 #![tactic(auto)]
 
+mod best_master;
 mod foreign;
 mod message;
 mod port;
@@ -12,6 +13,10 @@ mod timing;
 mod timing_laws;
 mod wire_laws;
 
+pub use best_master::{
+    announces_heard, best_wins, class_decides, coherent_sets, masters_compared, one_follows,
+    pass_in_order, paths_compared, ports_decided, qualified_set, two_qualify,
+};
 pub use foreign::{Heard, KeptAnnounce, Order, PortBest};
 pub use message::{Body, Message, Reject, Said};
 pub use port::{Fate, PortEvent, Timer};
@@ -19,10 +24,11 @@ pub use role_laws::{
     a_change_bears_the_stamp_in_force, a_changed_clock_is_taken_and_given,
     a_generation_has_few_orders, a_lawful_log_has_the_last_stamp, a_new_parent_is_a_new_edge,
     a_part_of_a_forest_is_one, a_port_drives_the_other_clock, a_port_without_lock_keeps_its_clock,
-    an_old_holder_is_superseded, copying_in_a_circle_is_no_forest, edges_make_a_forest,
-    entries_are_numbered_from_one, lawful_logs_grow, one_port_drives_all_clocks,
-    one_port_takes_over, orders_lead_to_the_new_edges, orders_leave_forests, orders_leave_parts,
-    roles_change_sides, stamps_have_the_controllers, the_same_edges_are_equal, two_logs_are_lawful,
+    a_stamp_was_ordered, an_old_holder_is_superseded, copying_in_a_circle_is_no_forest,
+    edges_make_a_forest, entries_are_numbered_from_one, lawful_logs_grow,
+    one_port_drives_all_clocks, one_port_takes_over, orders_lead_to_the_new_edges,
+    orders_leave_forests, orders_leave_parts, roles_change_sides, stamps_have_the_controllers,
+    the_same_edges_are_equal, two_logs_are_lawful,
 };
 pub use roles::{Edge, Lead, Notice, RoleOrder};
 pub use seats::{Held, Log, LogEntry, Reading, Receipt, Refused};
@@ -33,6 +39,6 @@ pub use timing_laws::{
     steering_is_gentle,
 };
 pub use wire_laws::{
-    decoded_is_what_is_read, examples_are_read, examples_are_written, free_octets, holds_numbers,
-    one_spelling,
+    decoded_is_what_is_read, examples_are_dropped, examples_are_read, examples_are_written,
+    free_octets, holds_numbers, one_spelling,
 };

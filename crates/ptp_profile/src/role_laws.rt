@@ -10,7 +10,7 @@ ghost use Rattle.ptp_profile.specs.declared.seats.LogEntry.TheVariants.{Change, 
 ghost use Rattle.ptp_profile.specs.Machine.{is_following};
 ghost use Rattle.ptp_profile.specs.Roles.{are_same_edges, AtMostOneFollows, edge_at, edges_of, is_same_edge, revoke, grant, ctrls_of, orders_of, stamp_of, notice_of};
 ghost use Rattle.ptp_profile.specs.Forest.{IsForest, IsPart, ctrls_after};
-ghost use Rattle.ptp_profile.specs.Logs.{clock_after, IsChanged, IsLawful, IsStamped, IsSuperseded, entry_at, log_after, order_entry, stamp_after};
+ghost use Rattle.ptp_profile.specs.Logs.{clock_after, HasOrder, IsChanged, IsLawful, IsStamped, IsSuperseded, entry_at, log_after, order_entry, stamp_after};
 
 /// The edges make a forest: who copies a clock copies one that a port drives.
 pub fn edges_make_a_forest()
@@ -196,4 +196,9 @@ pub fn an_old_holder_is_superseded()
         (record { clock = 0; gener = 2; ctrl = 129 }) 3 4 }
     ensures change { (tick : ℕ) (step freq : ℤ) → IsChanged (Order 3 1 ∷ Order 3 0 ∷ Change 2 129 tick step freq ∷ Order 2 129 ∷ [])
         (record { clock = 0; gener = 2; ctrl = 129 }) tick step freq 2 }
+{}
+
+/// The stamp in force in a log, if it names a controller, was ordered there.
+pub fn a_stamp_was_ordered()
+    ensures { (log : List LogEntry) → (stamp_after log).ctrl ≢ 0 → HasOrder log (stamp_after log).gener (stamp_after log).ctrl }
 {}

@@ -41,7 +41,7 @@ pub fn examples_are_paired()
     ensures eighth_alone { given (sync 8) (sync 7 ∷ follow_up 7 ∷ []) ≡ None }
     ensures ninth_alone { given (sync 9) (sync 8 ∷ sync 7 ∷ follow_up 7 ∷ []) ≡ None }
     ensures eighth_lost { given (follow_up 8) (sync 9 ∷ sync 8 ∷ sync 7 ∷ follow_up 7 ∷ []) ≡ None }
-    ensures seventh_last { last_triple (follow_up 8 ∷ sync 9 ∷ sync 8 ∷ sync 7 ∷ follow_up 7 ∷ []) ≡ Some example_triple }
+    ensures seventh_last { last_triple (follow_up 8 ∷ sync 8 ∷ sync 7 ∷ follow_up 7 ∷ One_step (pos 1) (pos 2) (pos 0) ∷ []) ≡ Some example_triple }
     ensures tenth_alone { given (sync 10) [] ≡ None }
     ensures tenth_paired { given (follow_up 10) (sync 10 ∷ []) ≡ Some example_triple }
     ensures tenth_once { given (follow_up 10) (follow_up 10 ∷ sync 10 ∷ []) ≡ None }
@@ -89,10 +89,13 @@ pub fn examples_are_steered()
 /// A servo that runs, is stepped off, waits for a later local time, and steps as it locks again; and
 /// one that begins anew with a generation, at the frequency of the generation's first sample.
 pub fn examples_are_steered_anew()
-    ensures stepped { steer stepping_servo
-        (sample (pos 6000) 6 ∷ sample (pos 6000) 5 ∷ sample (pos 6000) 4 ∷ sample (pos 6000) 4 ∷ sample (pos 6000) 3 ∷ sample
-        (pos 0) 2 ∷ sample (pos 0) 1 ∷ [])
+    ensures stepped { steer (stepping_servo 5000)
+        (sample (pos 6000) 6 ∷ sample (pos 6000) 5 ∷ sample (pos 6000) 4 ∷ sample (pos 6000) 4 ∷ sample (pos 6000) 3
+        ∷ sample (pos 0) 2 ∷ sample (pos 0) 1 ∷ [])
         ≡ Jump (neg_ℤ (pos 6000)) (pos 0) ∷ Unlocked ∷ Unlocked ∷ Unlocked ∷ Unlocked ∷ Locked (pos 0) ∷ Unlocked ∷ [] }
+    ensures first_step_once { steer (stepping_servo 30000)
+        (sample (pos 20001) 5 ∷ sample (pos 20001) 4 ∷ sample (pos 30001) 3 ∷ sample (pos 0) 2 ∷ sample (pos 0) 1 ∷ [])
+        ≡ Locked (pos 0) ∷ Unlocked ∷ Unlocked ∷ Locked (pos 0) ∷ Unlocked ∷ [] }
     ensures generations { let opened = neg_ℤ (pos 6553600) in
         steer example_servo (sample_in 2 (pos 5) (pos 100) 4 ∷ sample_in 2 opened (pos 0) 3 ∷ sample (pos 100) 2 ∷ sample (pos 0) 1 ∷ [])
         ≡ Locked (neg_ℤ (pos 13107199)) ∷ Unlocked ∷ Locked (neg_ℤ (pos 6553600)) ∷ Unlocked ∷ [] }

@@ -1,8 +1,9 @@
-ghost use Rattle.std.specs.Prelude.{◌≡◌, ◌↔◌, ℕ, List, ◌++◌, Ok, pos};
+ghost use Rattle.std.specs.Prelude.{◌≡◌, ◌↔◌, ℕ, List, [], ◌∷◌, ◌++◌, take, replicate, slice_set, Ok, Err, is_ok, IsTrue};
+ghost use Rattle.ptp_profile.specs.declared.message.Reject.TheVariants.{Short, Version, Domain, Type_, Length, Nanos, TimeRange};
 ghost use Rattle.ptp_profile.specs.declared.message.Message.{Message};
 ghost use Rattle.ptp_profile.specs.Wire.{Reads, written, IsSpelled, SameRead, decoded};
 ghost use Rattle.ptp_profile.specs.Spelled.{IsMessage, FitsPort, FitsSaid, FitsBody};
-ghost use Rattle.ptp_profile.specs.WireExamples.{announce, announce_octets, sync, sync_octets, delay_resp, delay_resp_octets, follow_up, follow_up_octets};
+ghost use Rattle.ptp_profile.specs.WireExamples.{with_octets, announce, announce_octets, sync, sync_octets, delay_resp, delay_resp_octets, follow_up, follow_up_octets};
 
 use crate::message::{Body, Message, Said};
 use ptp_base::PortId;
@@ -73,7 +74,25 @@ pub fn examples_are_read()
     ensures follow_up { decoded 5 follow_up_octets ≡ Ok follow_up }
 {}
 
-/// And they are written so, octet by octet.
+/// The Announce is dropped by what is wrong with it first, and octets behind it are free.
+#[tactic(auto, unfolding(crate::specs::Wire::number_at))]
+pub fn examples_are_dropped()
+    ensures cut_off { decoded 0 (take 63 announce_octets) ≡ Err Length }
+    ensures shortened { decoded 0 (slice_set (take 63 announce_octets) 3 63) ≡ Err Length }
+    ensures longer { decoded 0 (announce_octets ++ replicate 8 0) ≡ Ok announce }
+    ensures longer_by_its_length { decoded 0 (slice_set (announce_octets ++ replicate 8 0) 3 72) ≡ Ok announce }
+    ensures nanos { decoded 0 (with_octets 40 (0x3b ∷ 0x9a ∷ 0xca ∷ 0x00 ∷ []) announce_octets) ≡ Err Nanos }
+    ensures last_nanos { IsTrue (is_ok (decoded 0 (with_octets 40 (0x3b ∷ 0x9a ∷ 0xc9 ∷ 0xff ∷ []) announce_octets))) }
+    ensures seconds { decoded 0 (with_octets 34 (0x00 ∷ 0x02 ∷ 0x00 ∷ 0x00 ∷ 0x00 ∷ 0x00 ∷ []) announce_octets) ≡ Err TimeRange }
+    ensures last_seconds { IsTrue (is_ok (decoded 0 (with_octets 34 (0x00 ∷ 0x01 ∷ 0xff ∷ 0xff ∷ 0xff ∷ 0xff ∷ []) announce_octets))) }
+    ensures version { decoded 0 (slice_set announce_octets 1 0x11) ≡ Err Version }
+    ensures domain { decoded 0 (slice_set announce_octets 4 5) ≡ Err Domain }
+    ensures standard { decoded 0 (slice_set announce_octets 0 0x1b) ≡ Err Domain }
+    ensures short { decoded 0 (take 33 announce_octets) ≡ Err Short }
+    ensures signaling { decoded 0 (slice_set announce_octets 0 0x0c) ≡ Err Type_ }
+{}
+
+/// The examples are written as they are read, octet by octet.
 #[tactic(auto, unfolding(crate::specs::Wire::written))]
 pub fn examples_are_written()
     ensures announce { written announce ≡ announce_octets }

@@ -1,9 +1,5 @@
--- The run of ports that hear nothing.
-use Rattle.std.proofs.Common.{◌≡◌, ℕ, zero, suc, ◌+◌, ◌<◌, ◌≤◌, refl, arith, List, [], ◌∷◌}
-use Rattle.std.specs.Prelude.{if◌then◌else◌, ◌==◌}
-use Rattle.ptp_profile.specs.Wire.{number_at, written}
-use Rattle.bc_history.specs.declared.entry.Entry.{Entry}
-use Rattle.bc_history.specs.declared.entry.Run.{Run}
+-- The run of ports that receive nothing is the World of their scenario: each of the scenarios is evaluated.
+use Rattle.std.proofs.Common.{◌≡◌, ℕ, zero, suc, ◌+◌, ◌<◌, ◌≤◌, refl, arith}
 use Rattle.bc_history.specs.World.{status_after, IsWorld}
 use Rattle.bc_history.specs.Step.{step, state_of}
 use Rattle.bc_history.specs.Own.{owned}
@@ -12,24 +8,12 @@ use Rattle.bc_history.specs.Generations.{generation}
 use Rattle.bc_history.specs.Telling.{told}
 use Rattle.bc_history.specs.Effects.{effects_of, entry_after}
 use Rattle.bc_history.specs.Silent.{silent}
-use Rattle.bc_history.specs.Examples.{becomes_master, quiet_log}
-
--- each of the ports from p on becomes master
-abbrev pub masters_from : ℕ → ℕ → List Entry
-masters_from p zero = []
-masters_from p (suc n) = becomes_master p ∷ masters_from (p + 1) n
-
--- the run of so many entries
-abbrev pub quiet_run : List Entry → Run
-quiet_run entries = record { entries = entries; logs = quiet_log ∷ [] }
-
--- the entries of ports that hear nothing for so many seconds: each becomes master at 6 s
-abbrev pub silent_entries : ℕ → ℕ → List Entry
-silent_entries seconds count = if seconds == 6 then masters_from 1 count else []
+use Rattle.bc_top.specs.Silent.{AreBuilt}
+use Rattle.bc_top.proofs.SilentRun.{silent_run}
 
 -- the scenario of so many seconds and ports has this run
 abbrev HasRun : ℕ → ℕ → Type 0
-HasRun seconds count = IsWorld (silent seconds count) (quiet_run (silent_entries seconds count))
+HasRun seconds count = IsWorld (silent seconds count) (silent_run seconds count)
 
 up_to_six : (P : ℕ → Type 0) → P 0 → P 1 → P 2 → P 3 → P 4 → P 5 → P 6 → (n : ℕ) → n ≤ 6 → P n
 up_to_six P a b c d e f g zero le = a
@@ -65,5 +49,7 @@ four_port : (seconds : ℕ) → seconds ≤ 6 → HasRun seconds 4
 unfolding status_after step state_of owned decided heard generation told effects_of entry_after
 four_port = up_to_six (λ seconds. HasRun seconds 4) (1, refl) (1, refl) (1, refl) (1, refl) (1, refl) (1, refl) (5, refl)
 
-pub silent_world : (seconds count : ℕ) → seconds ≤ 6 → 0 < count → count ≤ 4 → HasRun seconds count
-silent_world seconds count short some few = one_to_four (λ count. HasRun seconds count) (one_port seconds short) (two_port seconds short) (three_port seconds short) (four_port seconds short) count some few
+pub world_of_silent : (seconds count : ℕ) → AreBuilt seconds count → HasRun seconds count
+world_of_silent seconds count built =
+    let short = built.few_seconds in
+    one_to_four (λ count. HasRun seconds count) (one_port seconds short) (two_port seconds short) (three_port seconds short) (four_port seconds short) count built.some_ports built.few_ports

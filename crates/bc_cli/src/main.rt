@@ -1,0 +1,46 @@
+//! Reads a scenario from standard input and writes the transcript of its run to standard output.
+#![tactic(auto)]
+
+use bc_top::{End, offline};
+use std::process::ExitCode;
+use std::{env, io};
+use text_io::{InAdapter, OutAdapter};
+
+/// The words of the command line, without the program's name.
+fn words(rt: &HostRuntime) -> io::Result<Vec<String>> {
+    let mut words = Vec::new(rt.alloc());
+    for word in env::args(rt)?.skip(1) {
+        words.push(word)?;
+    }
+    Ok(words)
+}
+
+/// Says on standard error why there is no transcript.
+fn report(rt: &HostRuntime, end: &End) -> io::Result<()> {
+    match end {
+        End::Done => Ok(()),
+        End::Usage => eprintln!(rt; "usage"),
+        End::Refused { line, reason } => eprintln!(rt; "line {line}: {reason}"),
+        End::ReadFault => eprintln!(rt; "read failed"),
+        End::WriteFault => eprintln!(rt; "write failed"),
+        End::NoMemory => eprintln!(rt; "no memory"),
+        End::TooLong => eprintln!(rt; "input too long"),
+    }
+}
+
+/// Does what the words of the command line ask for.
+fn run(rt: &HostRuntime) -> End {
+    let Ok(words) = words(rt) else {
+        return End::Usage;
+    };
+    let mut source = InAdapter::new(rt.reader());
+    let mut sink = OutAdapter::new(io::writer(rt));
+    offline(rt.alloc(), &words, &mut source, &mut sink)
+}
+
+fn main(rt: HostRuntime) -> ExitCode {
+    let end = run(&rt);
+    // Where standard error takes nothing, the status still tells the end.
+    let _ = report(&rt, &end);
+    ExitCode::from(end.status())
+}

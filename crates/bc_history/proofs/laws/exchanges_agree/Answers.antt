@@ -1,0 +1,5 @@
+use Rattle.bc_history.proofs.Exchanges.{exchange_agrees}
+use Rattle.bc_history.proofs.laws.exchanges_agree.Goals as goal
+
+pub returns : goal.returns
+returns c = exchange_agrees

@@ -1,0 +1,5 @@
+use Rattle.bc_history.proofs.Histories.{moments_rise}
+use Rattle.bc_history.proofs.laws.moments_never_fall.Goals as goal
+
+pub returns : goal.returns
+returns c = moments_rise

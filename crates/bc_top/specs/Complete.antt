@@ -1,0 +1,24 @@
+-- Which end a call has, but for memory, where no fault rose and the source tells what is left in it.
+use Rattle.std.specs.Prelude.{◌≡◌, ◌⊎◌, ℕ, ◌<◌, ◌≤◌, List, length, Some}
+use Rattle.text_io.specs.Outside.{Rose}
+use Rattle.text_io.specs.declared.reason.Reason.TheVariants.{Unbuilt}
+use Rattle.bc_history.specs.declared.scenario.Scenario.{Scenario}
+use Rattle.bc_history.specs.Silent.{StandsFor, StandsForNone}
+use Rattle.bc_top.specs.Words.{IsReplay}
+use Rattle.bc_top.specs.Reading.{most_octets}
+use Rattle.bc_top.specs.Call.{Call}
+use Rattle.bc_top.specs.declared.outcome.End.{End}
+use Rattle.bc_top.specs.declared.outcome.End.TheVariants.{Done, Refused, NoMemory, TooLong}
+
+-- the end is the one that is due, or there was no memory
+abbrev pub EndsBy : End → End → Type 0
+EndsBy due end = (end ≡ due) ⊎ (end ≡ NoMemory)
+
+-- the end that is due at a text
+pub record IsEndAt (text : List ℕ) (end : End) : Type 0 where
+  pub done : length text ≤ most_octets → (s : Scenario) → StandsFor text s → EndsBy Done end
+  pub refused : length text ≤ most_octets → StandsForNone text → EndsBy (Refused 0 Unbuilt) end
+  pub too_long : most_octets < length text → EndsBy TooLong end
+
+abbrev pub IsComplete : Call → End → Type 0
+IsComplete c end = IsReplay c.words → ¬ (Rose c.reads.faults c.reads.faults_after) → ¬ (Rose c.writes.faults c.writes.faults_after) → (text : List ℕ) → c.reads.left ≡ Some text → IsEndAt text end

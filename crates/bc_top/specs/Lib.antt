@@ -1,0 +1,11 @@
+pub mod Words
+pub mod Status
+pub mod Reading
+pub mod Writing
+pub mod Spelled
+pub mod Due
+pub mod Ports
+pub mod Silent
+pub mod Call
+pub mod Causes
+pub mod Complete

@@ -1,0 +1,17 @@
+//! The top call: from the words, the source and the sink of one run to its end.
+#![tactic(auto)]
+
+mod outcome;
+mod read;
+mod replay;
+mod scenario;
+mod top;
+mod transcript;
+mod words;
+mod write;
+
+pub use outcome::End;
+pub use top::offline;
+
+#[cfg(test)]
+mod tests;

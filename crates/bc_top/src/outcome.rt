@@ -1,0 +1,45 @@
+ghost use Rattle.std.specs.Prelude.{◌≡◌};
+ghost use Rattle.bc_top.specs.Status.{status_of};
+
+use text_io::Reason;
+
+/// How a call ended.
+#[derive(Clone, Copy, Debug, PartialEq, Eq)]
+pub enum End {
+    /// The source was read to its end and the whole transcript was written.
+    Done,
+    /// The words are none that the program takes.
+    Usage,
+    /// The text that was read is no scenario.
+    Refused {
+        /// The first line at fault, from 1; 0 is the text as a whole.
+        line: u32,
+        /// What is wrong with it.
+        reason: Reason,
+    },
+    /// A read failed.
+    ReadFault,
+    /// A write failed.
+    WriteFault,
+    /// There was no memory.
+    NoMemory,
+    /// The source gave more than 33,554,432 octets.
+    TooLong,
+}
+
+impl End {
+    /// The status that the program ends with.
+    pub fn status(&self) -> u8
+        ensures { result ≡ status_of self.now }
+    {
+        match self {
+            End::Done => 0,
+            End::Usage => 1,
+            End::Refused { .. } => 2,
+            End::ReadFault => 3,
+            End::WriteFault => 4,
+            End::NoMemory => 6,
+            End::TooLong => 8,
+        }
+    }
+}
