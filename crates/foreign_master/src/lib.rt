@@ -2,12 +2,14 @@
 //! (IEEE 1588-2019, 9.3.2).
 #![tactic(auto)]
 
+mod calls;
 mod pass;
 mod place;
 mod records;
 mod search;
 mod window;
 
+pub use calls::{Answer, Call};
 pub use place::Place;
 pub use ptp_profile::Heard;
 pub use records::Records;

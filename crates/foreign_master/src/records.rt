@@ -57,8 +57,7 @@ impl Records {
         ensures receiver { self.new.receiver ≡ self.old.receiver }
     {
         let places = self.places.items();
-        let known = find_sender(places, a.sender);
-        if known < places.len() {
+        if let Some(known) = find_sender(places, a.sender) {
             let before = Some(places[known].last);
             self.places.set(
                 known,
@@ -79,12 +78,13 @@ impl Records {
             self.places.push(place);
             return true;
         }
-        let left = find_left(places, self.window, at);
-        if left < places.len() {
-            self.places.set(left, place);
-            return true;
+        match find_left(places, self.window, at) {
+            Some(left) => {
+                self.places.set(left, place);
+                true
+            }
+            None => false,
         }
-        false
     }
 
     /// Hears an Announce at `at`, in ticks, and says what becomes of it
