@@ -11,7 +11,7 @@ use Rattle.ptp_profile.specs.declared.foreign.KeptAnnounce.{KeptAnnounce}
 use Rattle.ptp_profile.specs.Foreign.{is_crowded}
 use Rattle.foreign_master.specs.declared.place.Place.{Place}
 use Rattle.foreign_master.specs.Memory.{Memory, IsSound}
-use Rattle.foreign_master.specs.Places.{is_of, place_of, is_present, next_place, IsReached, Keeps}
+use Rattle.foreign_master.specs.Places.{is_of, is_present, next_place, IsReached, Keeps}
 use Rattle.foreign_master.proofs.Firsts.{first_of, passes_there, found_there, found_none, fails_all}
 use Rattle.foreign_master.proofs.Keeping.{Keeps-put, Keeps-push, Keeps-reuse}
 use Rattle.foreign_master.proofs.Senders.{not_crowded_own, not_crowded_few, crowded_full, count_lt}

@@ -10,7 +10,6 @@ mod search;
 mod window;
 
 pub use calls::{Answer, Call};
-pub use place::Place;
 pub use ptp_profile::Heard;
 pub use records::Records;
 

@@ -2,7 +2,7 @@ use ptp_base::Announcement;
 
 /// What is kept of one sender: its latest Announce, and its last two moments.
 #[derive(Clone, Copy, Debug)]
-pub struct Place {
+pub(crate) struct Place {
     /// Its latest Announce that was kept.
     pub said: Announcement,
     /// When that came, in ticks (ns).
