@@ -1,0 +1,93 @@
+-- The four ways in which an Announce is taken, or crowded out. A search of the places gives Some n or None.
+use Rattle.std.proofs.Common.{◌≡◌, ℕ, ◌-◌, ◌<◌, ◌≤◌, Bool, true, false, not, List, [], ◌∷◌, ◌++◌, length, get_or, set, Some, None, sym, ap, subst, ◌∙◌, arith}
+use Rattle.std.specs.List.{position}
+use Rattle.std.proofs.lemmas.List.Sums.{count_by-le-length}
+use Rattle.std.proofs.lemmas.List.{length_push}
+use Rattle.std.proofs.lemmas.List.Elements.{All-push}
+use Rattle.std.proofs.lemmas.Bool.{not-true, not-false}
+use Rattle.ptp_base.specs.declared.identity.PortId.{PortId}
+use Rattle.ptp_base.specs.Room.{Reserved}
+use Rattle.ptp_profile.specs.declared.foreign.KeptAnnounce.{KeptAnnounce}
+use Rattle.ptp_profile.specs.Foreign.{is_crowded}
+use Rattle.foreign_master.specs.declared.place.Place.{Place}
+use Rattle.foreign_master.specs.Memory.{Memory, IsSound}
+use Rattle.foreign_master.specs.Places.{is_of, is_present, next_place, IsReached, Keeps}
+use Rattle.foreign_master.proofs.Firsts.{first_of, passes_there, found_there, found_none, fails_all}
+use Rattle.foreign_master.proofs.Keeping.{Keeps-put, Keeps-push, Keeps-reuse}
+use Rattle.foreign_master.proofs.Senders.{not_crowded_own, not_crowded_few, crowded_full, count_lt}
+
+-- what contracts see, and the fields
+pub viewed : (q r : Memory) (ys : List Place) (kept : List KeptAnnounce) → q ≡ r → ys ≡ q.places → Keeps r.window r.places kept → Keeps q.window ys kept
+viewed q r ys kept e f keeps = subst (λ (l : List Place). Keeps q.window l kept) (sym f) (subst (λ (x : Memory). Keeps x.window x.places kept) (sym e) keeps)
+
+pub crowded_view : (q r : Memory) (at : ℕ) (kept : List KeptAnnounce) (s : PortId) (b : Bool) → q ≡ r → b ≡ not (is_crowded q.window at kept s) → b ≡ not (is_crowded r.window at kept s)
+crowded_view q r at kept s b e h = subst (λ (x : Memory). b ≡ not (is_crowded x.window at kept s)) e h
+
+-- ---- crowded or not
+pub own_not_crowded : (w at : ℕ) (kept : List KeptAnnounce) (s : PortId) (ys : List Place) (n : ℕ) →
+    Some n ≡ position (is_of s) ys → Keeps w ys kept → IsReached at kept → true ≡ not (is_crowded w at kept s)
+own_not_crowded w at kept s [] n first keeps reached = absurd cc
+own_not_crowded w at kept s (x ∷ ys) n first keeps reached =
+    let l = (first_of (is_of s) (x ∷ ys) n first).1 in
+    sym (ap not (not_crowded_own w at kept (x ∷ ys) s n x keeps reached l (found_there (is_of s) (x ∷ ys) n x first)))
+
+pub room_not_crowded : (w at : ℕ) (kept : List KeptAnnounce) (s : PortId) (ys : List Place) →
+    length ys < 16 → Keeps w ys kept → IsReached at kept → true ≡ not (is_crowded w at kept s)
+room_not_crowded w at kept s ys few keeps reached =
+    sym (ap not (not_crowded_few w at kept ys s keeps reached (omega (arith, count_by-le-length (is_present w at) ys))))
+
+left_at : (w at : ℕ) (ys : List Place) (n : ℕ) (d : Place) →
+    Some n ≡ position (λ (p : Place). not (is_present w at p)) ys → is_present w at (get_or ys n d) ≡ false
+left_at w at ys n d first = not-true _ (passes_there (λ (p : Place). not (is_present w at p)) ys n d first)
+
+pub left_not_crowded : (w at : ℕ) (kept : List KeptAnnounce) (s : PortId) (ys : List Place) (n : ℕ) →
+    Some n ≡ position (λ (p : Place). not (is_present w at p)) ys → Keeps w ys kept → IsReached at kept → true ≡ not (is_crowded w at kept s)
+left_not_crowded w at kept s [] n first keeps reached = absurd cc
+left_not_crowded w at kept s (x ∷ ys) n first keeps reached =
+    let l = (first_of (λ (p : Place). not (is_present w at p)) (x ∷ ys) n first).1 in
+    let lt = count_lt (is_present w at) (x ∷ ys) n x l (left_at w at (x ∷ ys) n x first) in
+    let few = keeps.few in
+    sym (ap not (not_crowded_few w at kept (x ∷ ys) s keeps reached (omega (arith, lt, few))))
+
+pub full_crowded : (w at : ℕ) (kept : List KeptAnnounce) (s : PortId) (ys : List Place) →
+    None ≡ position (λ (p : Place). not (is_present w at p)) ys → 16 ≤ length ys → None ≡ position (is_of s) ys →
+    Keeps w ys kept → IsReached at kept → false ≡ not (is_crowded w at kept s)
+full_crowded w at kept s ys left many absent keeps reached =
+    sym (ap not (crowded_full w at kept ys s keeps reached (found_none (is_of s) ys absent) many
+    (λ k d l. not-false _ (fails_all (λ (p : Place). not (is_present w at p)) ys left k d l))))
+
+-- ---- what the writes leave: xs are the places, ys what was lent of them
+pub put_taken : (w : ℕ) (xs ys new : List Place) (kept : List KeptAnnounce) (h : KeptAnnounce) (n : ℕ) (d : Place) →
+    Some n ≡ position (is_of h.said.sender) ys → Keeps w ys kept → IsReached h.at kept → ys ≡ xs →
+    new ≡ set xs n (record { said = h.said; last = h.at; before = Some (get_or ys n d).last }) → Keeps w new (h ∷ kept)
+put_taken w xs ys new kept h n d first keeps reached same is =
+    let there = first_of (is_of h.said.sender) ys n first in
+    subst (λ (z : List Place). Keeps w z (h ∷ kept)) (sym (is ∙ ap (λ (z : List Place). set z n (next_place h (Some (get_or ys n d)))) (sym same)))
+    (Keeps-put w ys kept h n d keeps reached there.0 there.1)
+
+pub push_taken : (w : ℕ) (xs ys new : List Place) (kept : List KeptAnnounce) (h : KeptAnnounce) →
+    None ≡ position (is_of h.said.sender) ys → length ys < 16 → Keeps w ys kept → IsReached h.at kept → ys ≡ xs →
+    new ≡ xs ++ next_place h None ∷ [] → Keeps w new (h ∷ kept)
+push_taken w xs ys new kept h absent l keeps reached same is =
+    subst (λ (z : List Place). Keeps w z (h ∷ kept)) (sym (is ∙ ap (λ (z : List Place). z ++ next_place h None ∷ []) (sym same)))
+    (Keeps-push w ys kept h keeps reached (found_none (is_of h.said.sender) ys absent) l)
+
+pub left_taken : (w : ℕ) (xs ys new : List Place) (kept : List KeptAnnounce) (h : KeptAnnounce) (n : ℕ) →
+    Some n ≡ position (λ (p : Place). not (is_present w h.at p)) ys → None ≡ position (is_of h.said.sender) ys →
+    Keeps w ys kept → IsReached h.at kept → ys ≡ xs → new ≡ set xs n (next_place h None) → Keeps w new (h ∷ kept)
+left_taken w xs [] new kept h n first absent keeps reached same is = absurd cc
+left_taken w xs (x ∷ ys) new kept h n first absent keeps reached same is =
+    let l = (first_of (λ (p : Place). not (is_present w h.at p)) (x ∷ ys) n first).1 in
+    subst (λ (z : List Place). Keeps w z (h ∷ kept)) (sym (is ∙ ap (λ (z : List Place). set z n (next_place h None)) (sym same)))
+    (Keeps-reuse w (x ∷ ys) kept h n x keeps reached (found_none (is_of h.said.sender) (x ∷ ys) absent) l (left_at w h.at (x ∷ ys) n x first))
+
+-- one more place leaves the places sound
+pub sound_push : (xs : List Place) (spare : ℕ) (p : Place) (room : Reserved Place) →
+    IsSound xs spare → p.said.steps < 255 → room ≡ record { items = xs ++ p ∷ []; spare = spare - 1 } → IsSound room.items room.spare
+sound_push xs spare p room sound few is =
+    let reserved = sound.reserved in
+    subst (λ (r : Reserved Place). IsSound r.items r.spare) (sym is)
+    (record {
+      reserved = omega (arith, length_push xs p);
+      near = All-push (λ (q : Place). q.said.steps < 255) xs p sound.near few;
+    })

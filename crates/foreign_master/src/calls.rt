@@ -1,0 +1,69 @@
+ghost use Rattle.std.specs.Prelude.{◌≡◌, List, All, length};
+ghost use Rattle.ptp_profile.specs.declared.foreign.KeptAnnounce.{KeptAnnounce};
+ghost use Rattle.foreign_master.specs.Memory.{Remembers};
+ghost use Rattle.foreign_master.specs.Calls.{IsHeardBy, IsReachedBy, AreInTime, kept_after, kept_after_all, answer_of, answers_of};
+
+use crate::records::Records;
+use ptp_base::Announcement;
+use ptp_profile::Heard;
+
+/// A call of `Records`.
+#[derive(Clone, Copy, Debug, PartialEq, Eq)]
+pub enum Call {
+    /// Hears an Announce at a moment, in ticks.
+    Hear(Announcement, u64),
+    /// Asks for the best at a moment, in ticks.
+    Best(u64),
+    /// Forgets all.
+    Reset,
+}
+
+/// What a call answers.
+#[derive(Clone, Copy, Debug, PartialEq, Eq)]
+pub enum Answer {
+    /// What became of the Announce.
+    Became(Heard),
+    /// The best announcement.
+    Found(Option<Announcement>),
+    /// All is forgotten.
+    Forgot,
+}
+
+impl Records {
+    /// Makes one call.
+    fn call(&mut self, call: &Call) -> Answer
+        requires { IsHeardBy self.old.receiver call.now }
+        ensures answer { (kept : List KeptAnnounce) → Remembers self.old kept → IsReachedBy call.now kept
+            → result ≡ answer_of self.old.window kept call.now }
+        ensures kept { (kept : List KeptAnnounce) → Remembers self.old kept → IsReachedBy call.now kept
+            → Remembers self.new (kept_after self.old.window kept call.now) }
+        ensures window { self.new.window ≡ self.old.window }
+        ensures receiver { self.new.receiver ≡ self.old.receiver }
+    {
+        match call {
+            Call::Hear(a, at) => Answer::Became(self.hear(*a, *at)),
+            Call::Best(at) => Answer::Found(self.best(*at)),
+            Call::Reset => {
+                self.reset();
+                Answer::Forgot
+            }
+        }
+    }
+
+    /// Makes these calls, one after another, and writes down the answers. So after every list of
+    /// calls the answers are those that the whole list of kept Announces gives (own).
+    pub fn run(&mut self, calls: &[Call], answers: &mut [Answer])
+        requires heard_by { All (IsHeardBy self.old.receiver) calls.now }
+        requires same_length { length answers.old ≡ length calls.now }
+        ensures answers { (kept : List KeptAnnounce) → Remembers self.old kept → AreInTime self.old.window kept calls.now
+            → answers.new ≡ answers_of self.old.window kept calls.now }
+        ensures kept { (kept : List KeptAnnounce) → Remembers self.old kept → AreInTime self.old.window kept calls.now
+            → Remembers self.new (kept_after_all self.old.window kept calls.now) }
+        ensures window { self.new.window ≡ self.old.window }
+        ensures receiver { self.new.receiver ≡ self.old.receiver }
+    {
+        for (i, call) in calls.iter().enumerate() {
+            answers[i] = self.call(call);
+        }
+    }
+}

@@ -1,0 +1,17 @@
+//! What a port keeps of the Announces of other clocks, and the best of them
+//! (IEEE 1588-2019, 9.3.2).
+#![tactic(auto)]
+
+mod calls;
+mod pass;
+mod place;
+mod records;
+mod search;
+mod window;
+
+pub use calls::{Answer, Call};
+pub use ptp_profile::Heard;
+pub use records::Records;
+
+#[cfg(test)]
+mod tests;

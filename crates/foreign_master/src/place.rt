@@ -1,0 +1,12 @@
+use ptp_base::Announcement;
+
+/// What is kept of one sender: its latest Announce, and its last two moments.
+#[derive(Clone, Copy, Debug)]
+pub(crate) struct Place {
+    /// Its latest Announce that was kept.
+    pub said: Announcement,
+    /// When that came, in ticks (ns).
+    pub last: u64,
+    /// When the one before it came, in ticks (ns).
+    pub before: Option<u64>,
+}

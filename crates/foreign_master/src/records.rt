@@ -1,0 +1,136 @@
+ghost use Rattle.std.specs.Prelude.{◌≡◌, ◌≢◌, ◌<◌, not, List, [], ◌∷◌, IfOk, IfSome, false, true};
+ghost use Rattle.ptp_profile.specs.declared.foreign.KeptAnnounce.{KeptAnnounce};
+ghost use Rattle.ptp_profile.specs.Foreign.{hearing_of, erbest, is_crowded};
+ghost use Rattle.foreign_master.specs.Places.{Keeps, IsReached};
+ghost use Rattle.foreign_master.specs.Memory.{Memory, Remembers};
+
+use crate::pass::winner;
+use crate::place::Place;
+use crate::search::{find_left, find_sender};
+use ptp_base::{Announcement, NoMemory, PortId, Room};
+use ptp_profile::Heard;
+use std::alloc::Global;
+use std::marker::Model;
+
+/// What one port keeps of the Announces that it hears: 16 places, in order of arrival, each for one
+/// sender (IEEE 1588-2019, 9.3.2; at least five are asked for there). Only `new` takes memory.
+#[derive(Drop)]
+pub struct Records {
+    receiver: PortId,
+    window: u64,
+    places: Room<Place>,
+}
+
+impl Model for Records {
+    ghost use Rattle.foreign_master.specs.Memory.{Memory, IsSound};
+
+    ghost Value = { Memory };
+
+    ghost view = { λ r. record { receiver = r.receiver; window = r.window; places = r.places.items } };
+
+    ghost invariant = { λ r. IsSound r.places.items r.places.spare };
+}
+
+impl Records {
+    /// Empty records of the port `receiver`, with all their places reserved. The foreign master
+    /// window has the length `window`, in ns: four announce intervals of the port
+    /// (IEEE 1588-2019, 9.3.2.5).
+    pub fn new(alloc: Global, receiver: PortId, window: u64) -> Result<Records, NoMemory>
+        ensures receiver { IfOk result (λ r. r.receiver ≡ receiver) }
+        ensures window { IfOk result (λ r. r.window ≡ window) }
+        ensures empty { IfOk result (λ r. Remembers r []) }
+    {
+        Ok(Records {
+            receiver,
+            window,
+            places: Room::with(alloc, 16)?,
+        })
+    }
+
+    /// Takes an Announce that came at `at`, in ticks, unless it is crowded out.
+    fn take(&mut self, a: Announcement, at: u64) -> bool
+        requires { a.steps < 255 }
+        ensures same { result ≡ false → self.new ≡ self.old }
+        ensures crowded { (kept : List KeptAnnounce) → Keeps self.old.window self.old.places kept → IsReached at kept → result ≡ not (is_crowded self.old.window at kept a.sender) }
+        ensures taken { (kept : List KeptAnnounce) → Keeps self.old.window self.old.places kept → IsReached at kept → result ≡ true → Keeps self.new.window self.new.places (record { at = at; said = a } ∷ kept) }
+        ensures window { self.new.window ≡ self.old.window }
+        ensures receiver { self.new.receiver ≡ self.old.receiver }
+    {
+        let places = self.places.items();
+        if let Some(known) = find_sender(places, a.sender) {
+            let before = Some(places[known].last);
+            self.places.set(
+                known,
+                Place {
+                    said: a,
+                    last: at,
+                    before,
+                },
+            );
+            return true;
+        }
+        let place = Place {
+            said: a,
+            last: at,
+            before: None,
+        };
+        if places.len() < 16 {
+            self.places.push(place);
+            return true;
+        }
+        match find_left(places, self.window, at) {
+            Some(left) => {
+                self.places.set(left, place);
+                true
+            }
+            None => false,
+        }
+    }
+
+    /// Hears an Announce at `at`, in ticks, and says what becomes of it
+    /// (IEEE 1588-2019, 9.3.2.5; `Crowded` is own). The moments must not fall.
+    pub fn hear(&mut self, a: Announcement, at: u64) -> Heard
+        requires { a.receiver ≡ self.old.receiver }
+        ensures answer { (kept : List KeptAnnounce) → Remembers self.old kept → IsReached at kept
+            → result ≡ hearing_of self.old.window at kept a }
+        ensures kept { (kept : List KeptAnnounce) → Remembers self.old kept → IsReached at kept
+            → result ≡ Heard.Kept → Remembers self.new (record { at = at; said = a } ∷ kept) }
+        ensures same { result ≢ Heard.Kept → self.new ≡ self.old }
+        ensures window { self.new.window ≡ self.old.window }
+        ensures receiver { self.new.receiver ≡ self.old.receiver }
+    {
+        if a.sender.clock == self.receiver.clock {
+            return Heard::Own;
+        }
+        if a.steps >= 255 {
+            return Heard::Far;
+        }
+        if a.alternate {
+            return Heard::Alternate;
+        }
+        if self.take(a, at) {
+            Heard::Kept
+        } else {
+            Heard::Crowded
+        }
+    }
+
+    /// The best announcement at `at`, in ticks, or None where no sender is qualified: Erbest of
+    /// IEEE 1588-2019, 9.3.2. `at` must not be below the moment of an Announce that was kept.
+    pub fn best(&self, at: u64) -> Option<Announcement>
+        ensures best { (kept : List KeptAnnounce) → Remembers self.now kept → IsReached at kept
+            → result ≡ erbest self.now.window at kept }
+        ensures near { IfSome result (λ a. a.steps < 255) }
+    {
+        winner(self.places.items(), self.window, at)
+    }
+
+    /// Forgets all that was kept.
+    pub fn reset(&mut self)
+        ensures empty { Remembers self.new [] }
+        ensures window { self.new.window ≡ self.old.window }
+        ensures receiver { self.new.receiver ≡ self.old.receiver }
+    {
+        self.places.clear();
+    }
+}
