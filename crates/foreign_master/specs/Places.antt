@@ -6,6 +6,7 @@ use Rattle.ptp_profile.specs.Identity.{is_same_port}
 use Rattle.ptp_profile.specs.Foreign.{is_from, count_from}
 use Rattle.foreign_master.specs.declared.place.Place.{Place}
 
+-- a place is of this sender
 abbrev pub is_of : PortId → Place → Bool
 is_of sender p = is_same_port p.said.sender sender
 
@@ -17,11 +18,12 @@ place_of sender places = find (is_of sender) places
 abbrev pub is_present : ℕ → ℕ → Place → Bool
 is_present w m p = nat_lt m (p.last + w)
 
+-- there is such a moment, and it is above the window's lower end
 abbrev pub is_within : ℕ → ℕ → Option ℕ → Bool
 is_within w m None = false
 is_within w m (Some at) = nat_lt m (at + w)
 
--- and so is the one before
+-- so is the one before the latest
 abbrev pub is_qualified : ℕ → ℕ → Place → Bool
 is_qualified w m p = is_within w m p.before
 

@@ -33,10 +33,10 @@ impl Records {
     /// Makes one call.
     fn call(&mut self, call: &Call) -> Answer
         requires { IsHeardBy self.old.receiver call.now }
-        ensures answer { (kept : List KeptAnnounce) → Remembers self.old kept → IsReachedBy call.now kept
-            → result ≡ answer_of self.old.window kept call.now }
-        ensures kept { (kept : List KeptAnnounce) → Remembers self.old kept → IsReachedBy call.now kept
-            → Remembers self.new (kept_after self.old.window kept call.now) }
+        ensures answer { (kept : List KeptAnnounce) → Remembers self.old kept
+            → IsReachedBy call.now kept → result ≡ answer_of self.old.window kept call.now }
+        ensures kept { (kept : List KeptAnnounce) → Remembers self.old kept
+            → IsReachedBy call.now kept → Remembers self.new (kept_after self.old.window kept call.now) }
         ensures window { self.new.window ≡ self.old.window }
         ensures receiver { self.new.receiver ≡ self.old.receiver }
     {
@@ -50,14 +50,15 @@ impl Records {
         }
     }
 
-    /// Makes these calls, one after another, and writes down the answers. So after every list of
-    /// calls the answers are those that the whole list of kept Announces gives (own).
+    /// Makes these calls, one after another, and writes their answers into `answers`: those that the
+    /// whole list of kept Announces gives, whatever was called before (own).
     pub fn run(&mut self, calls: &[Call], answers: &mut [Answer])
         requires heard_by { All (IsHeardBy self.old.receiver) calls.now }
         requires same_length { length answers.old ≡ length calls.now }
-        ensures answers { (kept : List KeptAnnounce) → Remembers self.old kept → AreInTime self.old.window kept calls.now
-            → answers.new ≡ answers_of self.old.window kept calls.now }
-        ensures kept { (kept : List KeptAnnounce) → Remembers self.old kept → AreInTime self.old.window kept calls.now
+        ensures answers { (kept : List KeptAnnounce) → Remembers self.old kept
+            → AreInTime self.old.window kept calls.now → answers.new ≡ answers_of self.old.window kept calls.now }
+        ensures kept { (kept : List KeptAnnounce) → Remembers self.old kept
+            → AreInTime self.old.window kept calls.now
             → Remembers self.new (kept_after_all self.old.window kept calls.now) }
         ensures window { self.new.window ≡ self.old.window }
         ensures receiver { self.new.receiver ≡ self.old.receiver }

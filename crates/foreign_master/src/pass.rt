@@ -73,7 +73,8 @@ fn better(best: Option<Announcement>, later: Announcement) -> Option<Announcemen
 /// (IEEE 1588-2019, 9.3.2; the order of the pass is own).
 pub(crate) fn winner(places: &[Place], window: u64, at: u64) -> Option<Announcement>
     requires { AreNear places.now }
-    ensures best { (kept : List KeptAnnounce) → Keeps window places.now kept → IsReached at kept → result ≡ erbest window at kept }
+    ensures best { (kept : List KeptAnnounce) → Keeps window places.now kept → IsReached at kept
+        → result ≡ erbest window at kept }
     ensures near { IfSome result (λ a. a.steps < 255) }
 {
     let mut best = None;

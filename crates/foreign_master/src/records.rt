@@ -1,7 +1,7 @@
 ghost use Rattle.std.specs.Prelude.{◌≡◌, ◌≢◌, ◌<◌, not, List, [], ◌∷◌, IfOk, IfSome, false, true};
 ghost use Rattle.ptp_profile.specs.declared.foreign.KeptAnnounce.{KeptAnnounce};
 ghost use Rattle.ptp_profile.specs.Foreign.{hearing_of, erbest, is_crowded};
-ghost use Rattle.foreign_master.specs.Places.{Keeps, IsReached};
+ghost use Rattle.foreign_master.specs.Places.{IsReached};
 ghost use Rattle.foreign_master.specs.Memory.{Memory, Remembers};
 
 use crate::pass::winner;
@@ -12,8 +12,13 @@ use ptp_profile::Heard;
 use std::alloc::Global;
 use std::marker::Model;
 
-/// What one port keeps of the Announces that it hears: 16 places, in order of arrival, each for one
-/// sender (IEEE 1588-2019, 9.3.2; at least five are asked for there). Only `new` takes memory.
+/// What one port keeps of the Announces that it hears: at most 16 places, each with the latest of one
+/// sender, which a sender without a place takes once another's has left the window
+/// (IEEE 1588-2019, 9.3.2.4; that there are 16 is own). Only `new` takes memory.
+///
+/// Contracts tell what it keeps by the whole list of the Announces that were kept since the last
+/// reset, the newest first. Whoever calls must not let moments fall: of a moment below that of an
+/// Announce in this list nothing is said.
 #[derive(Drop)]
 pub struct Records {
     receiver: PortId,
@@ -47,12 +52,15 @@ impl Records {
         })
     }
 
-    /// Takes an Announce that came at `at`, in ticks, unless it is crowded out.
+    /// Takes an Announce that came at `at`, in ticks, unless it is crowded out. A known sender keeps
+    /// its place, so that its Announce before this one counts on.
     fn take(&mut self, a: Announcement, at: u64) -> bool
         requires { a.steps < 255 }
         ensures same { result ≡ false → self.new ≡ self.old }
-        ensures crowded { (kept : List KeptAnnounce) → Keeps self.old.window self.old.places kept → IsReached at kept → result ≡ not (is_crowded self.old.window at kept a.sender) }
-        ensures taken { (kept : List KeptAnnounce) → Keeps self.old.window self.old.places kept → IsReached at kept → result ≡ true → Keeps self.new.window self.new.places (record { at = at; said = a } ∷ kept) }
+        ensures crowded { (kept : List KeptAnnounce) → Remembers self.old kept → IsReached at kept
+            → result ≡ not (is_crowded self.old.window at kept a.sender) }
+        ensures taken { (kept : List KeptAnnounce) → Remembers self.old kept → IsReached at kept
+            → result ≡ true → Remembers self.new (record { at = at; said = a } ∷ kept) }
         ensures window { self.new.window ≡ self.old.window }
         ensures receiver { self.new.receiver ≡ self.old.receiver }
     {
@@ -88,7 +96,7 @@ impl Records {
     }
 
     /// Hears an Announce at `at`, in ticks, and says what becomes of it
-    /// (IEEE 1588-2019, 9.3.2.5; `Crowded` is own). The moments must not fall.
+    /// (IEEE 1588-2019, 9.3.2.5; `Crowded` is own). Unless it is kept, nothing changes.
     pub fn hear(&mut self, a: Announcement, at: u64) -> Heard
         requires { a.receiver ≡ self.old.receiver }
         ensures answer { (kept : List KeptAnnounce) → Remembers self.old kept → IsReached at kept
@@ -115,8 +123,8 @@ impl Records {
         }
     }
 
-    /// The best announcement at `at`, in ticks, or None where no sender is qualified: Erbest of
-    /// IEEE 1588-2019, 9.3.2. `at` must not be below the moment of an Announce that was kept.
+    /// The best announcement at `at`, in ticks, or None where no sender is qualified: Erbest
+    /// (IEEE 1588-2019, 9.3.2; the order of the pass is own). It is of fewer than 255 steps.
     pub fn best(&self, at: u64) -> Option<Announcement>
         ensures best { (kept : List KeptAnnounce) → Remembers self.now kept → IsReached at kept
             → result ≡ erbest self.now.window at kept }
