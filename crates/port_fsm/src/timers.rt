@@ -1,0 +1,114 @@
+ghost use Rattle.std.specs.Prelude.{◌≡◌, ◌≤◌, ◌↔◌, ℕ, Some, None, IfSome};
+ghost use Rattle.ptp_profile.specs.Timers.{no_timers, timer_at, with_timer, due_of};
+ghost use Rattle.port_fsm.specs.Due.{sooner_at};
+
+use ptp_profile::Timer;
+use std::marker::Model;
+
+/// The timers of a port, each with the moment that it is set for, in ticks (ns), if it is set
+/// (IEEE 1588-2019, 9.2.6 and 9.5). No call takes memory.
+#[derive(Clone, Copy, Debug, PartialEq, Eq)]
+pub struct Timers {
+    receipt: Option<u64>,
+    qualification: Option<u64>,
+    announce: Option<u64>,
+    sync: Option<u64>,
+    delay: Option<u64>,
+}
+
+impl Model for Timers {
+    ghost use Rattle.ptp_profile.specs.Timers.{Timers};
+
+    ghost Value = { Timers };
+
+    ghost view = { λ t. record { receipt = t.receipt; qualification = t.qualification; announce = t.announce; sync = t.sync; delay = t.delay } };
+
+    ghost inverse = { λ t. record { receipt = t.receipt; qualification = t.qualification; announce = t.announce; sync = t.sync; delay = t.delay } };
+}
+
+/// The one that is due first, or the later of the order where its moment is less.
+fn sooner(first: Option<(u64, Timer)>, timer: Timer, at: Option<u64>) -> Option<(u64, Timer)>
+    ensures { result ≡ sooner_at first timer at }
+{
+    match (first, at) {
+        (_, None) => first,
+        (None, Some(at)) => Some((at, timer)),
+        (Some(due), Some(at)) => {
+            if at < due.0 {
+                Some((at, timer))
+            } else {
+                Some(due)
+            }
+        }
+    }
+}
+
+impl Timers {
+    /// No timer is set.
+    pub fn none() -> Timers
+        ensures { result ≡ no_timers }
+    {
+        Timers {
+            receipt: None,
+            qualification: None,
+            announce: None,
+            sync: None,
+            delay: None,
+        }
+    }
+
+    /// The moment that a timer is set for, in ticks (ns), if it is set.
+    pub fn at(&self, t: Timer) -> Option<u64>
+        ensures { result ≡ timer_at self.now t }
+    {
+        match t {
+            Timer::AnnounceReceipt => self.receipt,
+            Timer::Qualification => self.qualification,
+            Timer::AnnounceSend => self.announce,
+            Timer::SyncSend => self.sync,
+            Timer::DelayRequest => self.delay,
+        }
+    }
+
+    /// Sets a timer, or clears it.
+    fn put(&mut self, t: Timer, at: Option<u64>)
+        ensures { self.new ≡ with_timer self.old t at }
+    {
+        match t {
+            Timer::AnnounceReceipt => self.receipt = at,
+            Timer::Qualification => self.qualification = at,
+            Timer::AnnounceSend => self.announce = at,
+            Timer::SyncSend => self.sync = at,
+            Timer::DelayRequest => self.delay = at,
+        }
+    }
+
+    /// Sets a timer for the moment `at`, in ticks (ns), in place of the one before.
+    pub fn set(&mut self, t: Timer, at: u64)
+        ensures { self.new ≡ with_timer self.old t (Some at) }
+    {
+        self.put(t, Some(at));
+    }
+
+    /// Clears a timer.
+    pub fn clear(&mut self, t: Timer)
+        ensures { self.new ≡ with_timer self.old t None }
+    {
+        self.put(t, None);
+    }
+
+    /// The timer that is due first, with its moment in ticks (ns): the least moment, and of equal
+    /// moments the first in the order of `Timer` (own). None where no timer is set.
+    pub fn due(&self) -> Option<(u64, Timer)>
+        ensures due { result ≡ due_of self.now }
+        ensures set { IfSome result (λ due. timer_at self.now due.1 ≡ Some due.0) }
+        ensures least { IfSome result (λ due. (t : Timer) (at : ℕ) → timer_at self.now t ≡ Some at → due.0 ≤ at) }
+        ensures none { result ≡ None ↔ ((t : Timer) → timer_at self.now t ≡ None) }
+    {
+        let due = sooner(None, Timer::AnnounceReceipt, self.receipt);
+        let due = sooner(due, Timer::Qualification, self.qualification);
+        let due = sooner(due, Timer::AnnounceSend, self.announce);
+        let due = sooner(due, Timer::SyncSend, self.sync);
+        sooner(due, Timer::DelayRequest, self.delay)
+    }
+}
