@@ -51,9 +51,9 @@ impl Pairing {
     /// Takes a Sync with the sequenceId `seq` (IEEE 1588-2019, 9.5.4 and 11.2). `origin` is in ns of the
     /// master's time, `arrived` in ns of the receiver's clock, `correction` in ns times 65,536.
     ///
-    /// A one-step Sync, where `two_step` is false, gives its times at once. Another one gives them with
-    /// the Follow_Up of its sequence, if that is kept. In both cases nothing is kept then. Else the Sync
-    /// is kept, in place of what was, and the answer is None.
+    /// A one-step Sync, where `two_step` is false, gives its times at once. Another one, whose `origin`
+    /// does not count, gives them with the Follow_Up of its sequence, if that is kept. In both cases
+    /// nothing is kept then. Else the Sync is kept, in place of what was, and the answer is None.
     pub fn sync(
         &mut self,
         seq: u16,
