@@ -1,0 +1,3 @@
+pub mod Medians
+pub mod Keeping
+pub mod Sums

@@ -1,0 +1,6 @@
+use Rattle.delay_mech.proofs.Keeping.{sound_pushed}
+use Rattle.delay_mech.proofs.Sums.{far_within}
+use Rattle.delay_mech.proofs.delays.Delays.finish.Goals as goal
+
+pub invariant_of-self : goal.invariant_of-self
+invariant_of-self c = sound_pushed _ _ _ _ _ _ c.self.invariant (far_within _ c.delay.ensures.within) c.push_front.ensures.items

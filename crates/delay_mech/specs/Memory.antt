@@ -1,0 +1,65 @@
+-- What contracts see of Delays, and the whole list of delays since they were last cleared, the newest first.
+use Rattle.std.specs.Prelude.{◌≡◌, ℕ, ℤ, pos, neg_ℤ, ◌≤ℤ◌, ◌≤◌, ◌^◌, List, [], take, All, Option, Some, None, IfSome}
+use Rattle.ptp_base.specs.declared.identity.PortId.{PortId}
+use Rattle.ptp_base.specs.declared.triple.Triple.{Triple}
+use Rattle.ptp_profile.specs.Sync.{Request, answered, with_delay}
+use Rattle.delay_mech.specs.declared.request.Waiting.{Waiting}
+use Rattle.delay_mech.specs.declared.delays.Response.{Response}
+use Rattle.delay_mech.specs.declared.delays.Response.TheVariants.{Matched, Unmatched}
+
+-- the own port, the most delays that count, the last Sync with its origin, the request that waits, and the last delays
+pub record Memory : Type 0 where
+  pub own : PortId
+  pub length : ℕ
+  pub triple : Option Triple
+  pub request : Option Request
+  pub delays : List ℤ
+
+-- nothing is remembered
+abbrev pub empty : PortId → ℕ → Memory
+empty own length = record { own = own; length = length; triple = None; request = None; delays = [] }
+
+-- the last of all delays are kept
+abbrev pub Remembers : Memory → List ℤ → Type 0
+Remembers memory delays = memory.delays ≡ take memory.length delays
+
+-- the request that a Delay_Resp answers
+abbrev pub answered_by : Memory → ℕ → PortId → Option Request
+answered_by memory seq requesting = answered memory.own seq requesting memory.request
+
+-- what is remembered after a Delay_Resp that answers this request, if any
+abbrev pub after_response : Memory → Option Request → ℤ → ℤ → Memory
+after_response memory None received correction = memory
+after_response memory (Some request) received correction =
+    record memory { request = None; delays = take memory.length (with_delay memory.triple (Some request) received correction memory.delays) }
+
+-- whether a Delay_Resp answers a request
+abbrev pub response_to : Option Request → Response
+response_to None = Unmatched
+response_to (Some request) = Matched
+
+-- a request as the definitions of delays have it
+abbrev pub request_of : Waiting → Request
+request_of w = record { seq = w.seq; sent = w.sent }
+
+-- a number from -bound to bound
+pub record IsWithin (bound : ℕ) (z : ℤ) : Type 0 where
+  pub low : neg_ℤ (pos bound) ≤ℤ z
+  pub high : z ≤ℤ pos bound
+
+-- the correction of a Sync and its Follow_Up, in ns times 65,536
+abbrev pub IsCorrection : ℤ → Type 0
+IsCorrection c = IsWithin (2 ^ 64) c
+
+-- a delay is far from the ends of 128 bits
+abbrev pub IsDelay : ℤ → Type 0
+IsDelay d = IsWithin (2 ^ 82) d
+
+-- there are places for the delays that count, and what is kept is small enough to be added up
+pub record IsSound (most : ℕ) (triple : Option Triple) (delays : List ℤ) (places : ℕ) : Type 0 where
+  pub some : 1 ≤ most
+  pub few : most ≤ 32
+  pub reserved : places ≡ most
+  pub last : delays ≡ take most delays
+  pub corrections : IfSome triple (λ t. IsCorrection t.correction)
+  pub small : All IsDelay delays

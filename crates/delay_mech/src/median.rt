@@ -1,0 +1,32 @@
+ghost use Rattle.std.specs.Prelude.{◌≡◌, ◌≢◌, [], All};
+ghost use Rattle.ptp_profile.specs.Sync.{median, middle};
+ghost use Rattle.delay_mech.specs.Memory.{IsDelay};
+
+use crate::arithmetic::half;
+use ptp_base::Scaled;
+
+/// Of numbers in rising order the middle one, or the floor of half the sum of the middle two.
+fn middle(numbers: &[Scaled]) -> Scaled
+    requires some { numbers.now ≢ [] }
+    requires small { All IsDelay numbers.now }
+    ensures { result ≡ middle numbers.now }
+{
+    let count = numbers.len();
+    if count % 2 == 1 {
+        numbers[count / 2]
+    } else {
+        half(numbers[count / 2 - 1] + numbers[count / 2])
+    }
+}
+
+/// The median of numbers, which are put in rising order, or None where there is none.
+pub(crate) fn median(numbers: &mut [Scaled]) -> Option<Scaled>
+    requires { All IsDelay numbers.old }
+    ensures { result ≡ median numbers.old }
+{
+    if numbers.is_empty() {
+        return None;
+    }
+    numbers.sort_unstable();
+    Some(middle(numbers))
+}

@@ -1,0 +1,132 @@
+ghost use Rattle.std.specs.Prelude.{◌≡◌, ◌+ℤ◌, List, [], ◌∷◌};
+ghost use Rattle.ptp_profile.specs.Sync.{Piece, Follow_up, given, triple_from};
+ghost use Rattle.sync_match.specs.Waiting.{Remembers, sync_of};
+
+use crate::half::Half;
+use ptp_base::Triple;
+use std::marker::Model;
+
+/// The times of a Sync and its Follow_Up, and the corrections of both (IEEE 1588-2019, 11.2).
+fn joined(precise: i64, arrived: i64, correction: i64, added: i64) -> Triple
+    ensures { result ≡ triple_from precise arrived (correction +ℤ added) }
+{
+    Triple {
+        origin: precise,
+        arrived,
+        correction: i128::from(correction) + i128::from(added),
+    }
+}
+
+/// The message of one master that waits for its partner: nothing, one Sync or one Follow_Up
+/// (IEEE 1588-2019, 9.5.4 and 9.5.5; that it is one alone is own).
+#[derive(Drop)]
+pub struct Pairing {
+    kept: Option<Half>,
+}
+
+impl Model for Pairing {
+    ghost use Rattle.std.specs.Prelude.{Option};
+    ghost use Rattle.sync_match.specs.declared.half.Half.{Half};
+
+    ghost Value = { Option Half };
+
+    ghost view = { λ p. p.kept };
+}
+
+impl Pairing {
+    /// A pairing that keeps nothing.
+    pub fn new() -> Pairing
+        ensures { Remembers result [] }
+    {
+        Pairing { kept: None }
+    }
+
+    /// Keeps nothing.
+    pub fn clear(&mut self)
+        ensures { Remembers self.new [] }
+    {
+        *self = Pairing::new();
+    }
+
+    /// Takes a Sync with the sequenceId `seq` (IEEE 1588-2019, 9.5.4 and 11.2). `origin` is in ns of the
+    /// master's time, `arrived` in ns of the receiver's clock, `correction` in ns times 65,536.
+    ///
+    /// A one-step Sync, where `two_step` is false, gives its times at once. Another one, whose `origin`
+    /// does not count, gives them with the Follow_Up of its sequence, if that is kept. In both cases
+    /// nothing is kept then. Else the Sync is kept, in place of what was, and the answer is None.
+    pub fn sync(
+        &mut self,
+        seq: u16,
+        two_step: bool,
+        origin: i64,
+        arrived: i64,
+        correction: i64,
+    ) -> Option<Triple>
+        ensures answer { (before : List Piece) → Remembers self.old before
+            → result ≡ given (sync_of seq two_step origin arrived correction) before }
+        ensures kept { (before : List Piece) → Remembers self.old before
+            → Remembers self.new (sync_of seq two_step origin arrived correction ∷ before) }
+    {
+        if !two_step {
+            self.kept = None;
+            return Some(Triple {
+                origin,
+                arrived,
+                correction: i128::from(correction),
+            });
+        }
+        match self.kept {
+            Some(
+                Half::FollowUp {
+                    seq: follow_up_seq,
+                    precise,
+                    correction: added,
+                },
+            ) if follow_up_seq == seq => {
+                self.kept = None;
+                Some(joined(precise, arrived, correction, added))
+            }
+            _ => {
+                self.kept = Some(Half::Sync {
+                    seq,
+                    arrived,
+                    correction,
+                });
+                None
+            }
+        }
+    }
+
+    /// Takes a Follow_Up with the sequenceId `seq` (IEEE 1588-2019, 9.5.5 and 11.2). `precise` is when
+    /// its Sync was sent, in ns of the master's time, `correction` is in ns times 65,536.
+    ///
+    /// It gives the times of the Sync of its sequence, if that is kept, and nothing is kept then. Else
+    /// the Follow_Up is kept, in place of what was, and the answer is None.
+    pub fn follow_up(&mut self, seq: u16, precise: i64, correction: i64) -> Option<Triple>
+        ensures answer { (before : List Piece) → Remembers self.old before
+            → result ≡ given (Follow_up seq precise correction) before }
+        ensures kept { (before : List Piece) → Remembers self.old before
+            → Remembers self.new (Follow_up seq precise correction ∷ before) }
+    {
+        match self.kept {
+            Some(
+                Half::Sync {
+                    seq: sync_seq,
+                    arrived,
+                    correction: added,
+                },
+            ) if sync_seq == seq => {
+                self.kept = None;
+                Some(joined(precise, arrived, added, correction))
+            }
+            _ => {
+                self.kept = Some(Half::FollowUp {
+                    seq,
+                    precise,
+                    correction,
+                });
+                None
+            }
+        }
+    }
+}
