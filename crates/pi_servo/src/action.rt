@@ -4,8 +4,9 @@ ghost use Rattle.ptp_profile.specs.declared.timing.Action.TheVariants.{Locked};
 ghost use Rattle.ptp_profile.specs.Servo.{limit, held_within, wanted, jumps, first_action, IsGentle};
 ghost use Rattle.pi_servo.specs.Samples.{sample_at};
 
-use crate::gains::{hold, is_above, limit_of};
+use crate::limit::{hold, limit_of};
 use crate::running::wanted_at;
+use crate::threshold::is_above;
 use ptp_base::TIME_MAX;
 use ptp_profile::{Action, ServoConf};
 

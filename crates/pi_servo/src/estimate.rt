@@ -4,7 +4,8 @@ ghost use Rattle.model_clock.specs.Clock.{IsWithin};
 ghost use Rattle.ptp_profile.specs.Servo.{limit, estimate};
 ghost use Rattle.pi_servo.specs.Samples.{sample_at};
 
-use crate::gains::{hold, limit_of, plus};
+use crate::gains::plus;
+use crate::limit::{hold, limit_of};
 use crate::point::Point;
 use ptp_base::floor_div;
 use ptp_profile::ServoConf;
@@ -12,7 +13,7 @@ use ptp_profile::ServoConf;
 /// What a frequency is divided by for the ratio that it means: 10^9 parts, each of them 65,536.
 const WHOLE: i128 = 65_536_000_000_000;
 
-// The pace that a clock has without the drift, in parts of `WHOLE`.
+// The pace that a clock has without the drift, in parts of `WHOLE`. Its magnitude is at most 2^49.
 fn pace_without(drift: i64) -> i128
     requires { IsWithin (pos 281474976645120) drift }
     ensures value { result ≡ (pos 65536000000000 -ℤ drift) }
@@ -21,7 +22,7 @@ fn pace_without(drift: i64) -> i128
     WHOLE - drift as i128
 }
 
-// A change in ns, at a pace.
+// A change in ns, of at most 2^64, at a pace: at most 2^113.
 fn paced(change: i128, pace: i128) -> i128
     requires change { IsWithin (pos 18446744073709551616) change }
     requires pace { IsWithin (pos 562949953421312) pace }

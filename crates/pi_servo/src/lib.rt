@@ -5,11 +5,13 @@
 mod action;
 mod estimate;
 mod gains;
+mod limit;
 mod point;
 mod running;
 mod servo;
 mod stage;
 mod steerer;
+mod threshold;
 
 pub use ptp_profile::{Action, ServoConf};
 pub use servo::Servo;

@@ -1,9 +1,10 @@
-ghost use Rattle.std.specs.Prelude.{ℕ, ℤ, pos, ◌≡◌, ◌+ℤ◌, nat_lt, nat_abs, if◌then◌else◌};
+ghost use Rattle.std.specs.Prelude.{ℕ, ℤ, pos, ◌≡◌, ◌+ℤ◌, if◌then◌else◌};
 ghost use Rattle.model_clock.specs.Clock.{IsWithin};
 ghost use Rattle.ptp_profile.specs.Servo.{limit, part, wanted, passes};
 ghost use Rattle.pi_servo.specs.Samples.{sample_at};
 
-use crate::gains::{limit_of, part_of, plus};
+use crate::gains::{part_of, plus};
+use crate::limit::{is_outside, limit_of};
 use ptp_profile::ServoConf;
 
 /// What is counteracted, before it is held: the drift, the proportional part and the integral part,
@@ -12,13 +13,6 @@ pub fn wanted_at(conf: &ServoConf, offset: i64, drift: i64) -> i128
     ensures { (gener : ℕ) (freq : ℤ) (local : ℕ) → result ≡ wanted conf.now (sample_at gener freq offset local) drift }
 {
     plus(drift, part_of(conf.kp, offset)) + part_of(conf.ki, offset)
-}
-
-// Whether a frequency passes an end of the limit.
-fn is_outside(most: u64, freq: i128) -> bool
-    ensures { result ≡ nat_lt most (nat_abs freq) }
-{
-    freq.unsigned_abs() > most as u128
 }
 
 // The drift and the integral part, where they don't pass an end.

@@ -1,16 +1,17 @@
-ghost use Rattle.std.specs.Prelude.{ℕ, ℤ, pos, ◌≡◌, ◌<◌, Bool, true, false, ◌||◌, List, [], ◌∷◌};
+ghost use Rattle.std.specs.Prelude.{ℕ, ℤ, pos, ◌≡◌, ◌<◌, true, false, List, [], ◌∷◌};
 ghost use Rattle.model_clock.specs.Clock.{IsWithin};
 ghost use Rattle.ptp_profile.specs.declared.timing.ServoConf.{ServoConf};
-ghost use Rattle.ptp_profile.specs.Servo.{Sample, Running, estimate, estimates, next_phase, next_drift, first_action, action_at, action_after, is_held, IsGentle};
+ghost use Rattle.ptp_profile.specs.Servo.{Sample, Running, estimate, next_phase, next_drift, first_action, action_at, action_after, is_held, IsGentle};
 ghost use Rattle.pi_servo.specs.Samples.{sample_at};
-ghost use Rattle.pi_servo.specs.Run.{Progress, Runs, Steps};
+ghost use Rattle.pi_servo.specs.Run.{Runs, Steps};
 
 use crate::action::{first_action_of, running_action_of};
 use crate::estimate::estimate_of;
-use crate::gains::{hold, is_above, limit_of};
+use crate::limit::{hold, limit_of};
 use crate::point::Point;
 use crate::running::drift_with;
 use crate::stage::Stage;
+use crate::threshold::is_above;
 use ptp_base::TIME_MAX;
 use ptp_profile::{Action, ServoConf};
 use std::marker::Model;
@@ -20,7 +21,10 @@ use std::marker::Model;
 pub struct Servo {
     conf: ServoConf,
     stage: Stage,
+    // Whether it has made an estimate. It stays so when the servo begins anew, so that the clock is
+    // stepped for `first_step` once.
     locked: bool,
+    // How much too fast the clock is by itself, in ppb times 65,536.
     drift: i64,
 }
 

@@ -1,9 +1,9 @@
-ghost use Rattle.std.specs.Prelude.{ℕ, ℤ, pos, ◌≡◌, ◌≢◌, true, false, List, [], ◌∷◌, Some};
+ghost use Rattle.std.specs.Prelude.{◌≡◌, ◌≢◌, true, false, List, [], ◌∷◌, Some};
 ghost use Rattle.model_clock.specs.Clock.{IsWithin};
 ghost use Rattle.ptp_profile.specs.declared.timing.ServoConf.{ServoConf};
 ghost use Rattle.ptp_profile.specs.Servo.{Sample, newest_action, IsGentle};
 ghost use Rattle.pi_servo.specs.Samples.{sample_at};
-ghost use Rattle.pi_servo.specs.Steering.{Steering, Steers};
+ghost use Rattle.pi_servo.specs.Steering.{Steers};
 
 use crate::servo::Servo;
 use ptp_base::TIME_MAX;
