@@ -30,8 +30,11 @@ fn report(rt: &HostRuntime, end: &End) -> io::Result<()> {
 
 /// Does what the words of the command line ask for.
 fn run(rt: &HostRuntime) -> End {
-    let Ok(words) = words(rt) else {
-        return End::Usage;
+    let words = match words(rt) {
+        Ok(words) => words,
+        Err(e) if e.kind() == io::ErrorKind::OutOfMemory => return End::NoMemory,
+        // A word that is not UTF-8 is none of the program's.
+        Err(_) => return End::Usage,
     };
     let mut source = InAdapter::new(rt.reader());
     let mut sink = OutAdapter::new(io::writer(rt));
