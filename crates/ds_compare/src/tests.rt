@@ -74,7 +74,7 @@ fn path(steps: u16, sender: PortId, receiver: PortId) -> Announcement {
 }
 
 #[test]
-fn paths_to_one_grandmaster(rt: HostRuntime) {
+fn the_nearer_path_is_better(rt: HostRuntime) {
     let here = port(5, 1);
     let low = port(1, 1);
     let high = port(9, 1);
@@ -95,6 +95,13 @@ fn paths_to_one_grandmaster(rt: HostRuntime) {
             "{name}, the other way round"
         );
     }
+}
+
+#[test]
+fn topology_decides_between_paths(rt: HostRuntime) {
+    let here = port(5, 1);
+    let low = port(1, 1);
+    let high = port(9, 1);
     for (name, a, b) in [
         ("above", path(3, high, here), path(4, low, here)),
         (
