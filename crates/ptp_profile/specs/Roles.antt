@@ -64,6 +64,11 @@ abbrev pub ctrl_of : Edge → ℕ
 ctrl_of (Port port parent) = port
 ctrl_of (Follow source) = 128 + source
 
+-- the controller fits into an octet: the port, or the clock that is copied, is at most 127
+abbrev pub HasCtrl : Edge → Type 0
+HasCtrl (Port port parent) = port ≤ 127
+HasCtrl (Follow source) = source ≤ 127
+
 -- the controller of a clock with such an edge, 0 for none
 abbrev pub ctrl_by : Option Edge → ℕ
 ctrl_by None = 0

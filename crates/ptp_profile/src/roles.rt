@@ -1,3 +1,6 @@
+ghost use Rattle.std.specs.Prelude.{◌≡◌};
+ghost use Rattle.ptp_profile.specs.Roles.{HasCtrl, ctrl_of};
+
 use ptp_base::PortId;
 
 /// What drives a clock.
@@ -7,6 +10,20 @@ pub enum Edge {
     Port { port: u8, parent: PortId },
     /// The clock's own follower, which copies another clock.
     Follow { source: u8 },
+}
+
+impl Edge {
+    /// The controller that the edge names: its port, or 128 more than the clock that is copied.
+    /// The port, or that clock, is at most 127.
+    pub fn ctrl(&self) -> u8
+        requires { HasCtrl self.now }
+        ensures { result ≡ ctrl_of self.now }
+    {
+        match self {
+            Edge::Port { port, .. } => *port,
+            Edge::Follow { source } => 128 + *source,
+        }
+    }
 }
 
 /// An order of a generation: who drives the clock from now on. The controller is 0 for nobody, 1 to
