@@ -69,3 +69,45 @@ fn a_port_steps_its_clock(rt: HostRuntime) {
         Some((Receipt { number: 1 }, Ok(Receipt { number: 2 }), reading))
     );
 }
+
+/// The clock is given to the port anew.
+fn given_anew(seats: &mut PlainSeats) -> Receipt
+    requires logs { seats.old.logs ≡ (Order 1 1 ∷ []) ∷ [] }
+    requires spare { 1 ≤ seats.old.spare }
+    ensures logs { seats.new.logs ≡ (Order 2 1 ∷ Order 1 1 ∷ []) ∷ [] }
+    ensures spare { seats.old.spare ≤ seats.new.spare + 1 }
+{
+    seats.order(0, 2, 1)
+}
+
+/// What the port is answered under a stamp once it was given the clock twice.
+fn answered(alloc: Global, anew: bool) -> Result<Result<Receipt, Refused>, NoMemory> {
+    let mut seats = clock(alloc)?;
+    let first = given(&mut seats);
+    let second = given_anew(&mut seats);
+    if anew {
+        let held = Held { gener: 2, ..PORT };
+        Ok(seats.adjust(held, 5 * SECOND, 0, 0))
+    } else {
+        Ok(seats.adjust(PORT, 5 * SECOND, 0, 0))
+    }
+}
+
+/// How many entries the log has that is lent, and how many logs part.
+fn parted(alloc: Global) -> Result<(usize, usize), NoMemory> {
+    let mut seats = clock(alloc)?;
+    let first = given(&mut seats);
+    let entries = seats.log(0).len();
+    Ok((entries, seats.part().len()))
+}
+
+#[test]
+fn holders_are_refused(rt: HostRuntime) {
+    let superseded = Refused::Superseded { newer: 2, at: 2 };
+    assert_eq!(rt; answered(rt.alloc(), false).ok(), Some(Err(superseded)));
+    assert_eq!(rt;
+        answered(rt.alloc(), true).ok(),
+        Some(Err(Refused::Spent { at: 2 }))
+    );
+    assert_eq!(rt; parted(rt.alloc()).ok(), Some((1, 1)));
+}
