@@ -1,5 +1,5 @@
 use ptp_base::{Items, Octets, PortId, PortState};
-use ptp_profile::{Action, Fate, Held, Lead, Log, Measure, RoleOrder, Timer};
+use ptp_profile::{Action, Fate, Held, Lead, Logs, Measure, RoleOrder, Timer};
 
 /// What an exchange gave.
 #[derive(Clone, Copy, Debug, PartialEq, Eq)]
@@ -120,8 +120,6 @@ pub type Sends = Items<Sent>;
 pub type Answers = Items<Octets>;
 /// Entries, the oldest first.
 pub type Entries = Items<Entry>;
-/// Logs, by rising clock.
-pub type Logs = Items<Log>;
 
 /// What follows from an input.
 #[derive(Debug, Drop)]

@@ -31,7 +31,7 @@ pub use role_laws::{
     the_same_edges_are_equal, two_logs_are_lawful,
 };
 pub use roles::{Edge, Lead, Notice, RoleOrder};
-pub use seats::{Held, Log, LogEntry, Reading, Receipt, Refused};
+pub use seats::{Held, Log, LogEntries, LogEntry, Logs, Reading, Receipt, Refused};
 pub use timing::{Action, Measure, ServoConf};
 pub use timing_laws::{
     drift_is_estimated, examples_are_answered, examples_are_clocked, examples_are_measured,
