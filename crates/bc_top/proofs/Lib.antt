@@ -6,6 +6,8 @@ pub mod PortsOnly
 pub mod Turns
 pub mod DueInputs
 pub mod OnTheWay
+pub mod Taken
+pub mod AtPorts
 pub mod Lines
 pub mod SilentRun
 pub mod SilentWorld

@@ -1,18 +1,20 @@
 -- A run as a loop over due ports: as long as a port has something due, the first of them takes it.
-use Rattle.std.specs.Prelude.{◌≡◌, ◌⊎◌, ℕ, ◌<◌, ◌≤◌, List, [], ◌∷◌, length, map, replicate, fold, slice_get, option_map, Option, Some}
+use Rattle.std.specs.Prelude.{◌≡◌, ◌⊎◌, ℕ, ◌<◌, ◌≤◌, List, [], ◌∷◌, length, map, replicate, fold, slice_get, option_map, if◌then◌else◌, Option, Some, None}
+use Rattle.ptp_base.specs.declared.port.PortConf.{PortConf}
 use Rattle.model_clock.specs.declared.state.ClockState.{ClockState}
 use Rattle.ptp_profile.specs.declared.seats.LogEntry.{LogEntry}
 use Rattle.bc_history.specs.declared.entry.Entry.{Entry}
 use Rattle.bc_history.specs.declared.entry.Input.{Input}
 use Rattle.bc_history.specs.declared.entry.Input.TheVariants.{Frame, Timed, Down, Up, Report, Turn, Sampled, Query}
 use Rattle.bc_history.specs.declared.entry.Run.{Run}
+use Rattle.bc_history.specs.declared.entry.Seen.{Seen}
 use Rattle.bc_history.specs.declared.scenario.Scenario.{Scenario}
 use Rattle.bc_history.specs.State.{HubPort}
-use Rattle.bc_history.specs.Inputs.{tick_of}
+use Rattle.bc_history.specs.Inputs.{tick_of, is_read}
 use Rattle.bc_history.specs.Step.{state_of}
 use Rattle.bc_history.specs.Effects.{entry_after}
 use Rattle.bc_history.specs.Next.{port_input}
-use Rattle.bc_history.specs.World.{World, Waits, Turns_next, Going, follower_count, port_reading, with_order, run_of, status_after}
+use Rattle.bc_history.specs.World.{World, Waits, Turns_next, Going, follower_count, port_reading, seen_of, with_order, run_of, status_after}
 
 -- nobody acts but ports: there is no schedule and no query, and no follower is ever due
 pub record IsQuiet (s : Scenario) : Type 0 where
@@ -79,6 +81,10 @@ ticks_of s ports = map (λ h. option_map tick_of (port_input s h)) ports
 -- the ports after a history
 abbrev pub ports_after : Scenario → List Entry → List HubPort
 ports_after s entries = (state_of s entries).core.ports
+
+-- the reading that comes with an input of a port of this configuration, where the input has one
+abbrev pub reading_by : Scenario → List Entry → List (List LogEntry) → PortConf → Input → Option Seen
+reading_by s entries logs conf input = if is_read input then Some (seen_of s (waiting_world s entries logs) conf.clock (tick_of input)) else None
 
 -- the entry that the input of a port makes, with a reading of the port's clock where the input has one
 abbrev pub entry_by : Scenario → List Entry → List (List LogEntry) → HubPort → Input → Entry

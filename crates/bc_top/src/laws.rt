@@ -1,16 +1,21 @@
-ghost use Rattle.std.specs.Prelude.{◌≡◌, ◌<◌, ◌≤◌, ℕ, ◌+◌, List, [], ◌∷◌, length, replicate, Option, None, Some, slice_get};
+ghost use Rattle.std.specs.Prelude.{◌≡◌, ◌<◌, ◌≤◌, ℕ, ◌+◌, List, [], ◌∷◌, length, replicate, Option, None, Some, slice_get, slice_set};
+ghost use Rattle.ptp_base.specs.declared.port.PortConf.{PortConf};
+ghost use Rattle.ptp_profile.specs.declared.port.Timer.{Timer};
+ghost use Rattle.ptp_profile.specs.Timers.{due_of};
 ghost use Rattle.ptp_profile.specs.declared.seats.LogEntry.{LogEntry};
 ghost use Rattle.bc_history.specs.declared.entry.Entry.{Entry};
 ghost use Rattle.bc_history.specs.declared.entry.Input.{Input};
+ghost use Rattle.bc_history.specs.declared.entry.Input.TheVariants.{Timed};
 ghost use Rattle.bc_history.specs.declared.scenario.Record.{Record};
 ghost use Rattle.bc_history.specs.declared.scenario.Scenario.{Scenario};
 ghost use Rattle.bc_history.specs.State.{HubPort};
+ghost use Rattle.bc_history.specs.Inputs.{port_of};
 ghost use Rattle.bc_history.specs.Opening.{open_follower};
 ghost use Rattle.bc_history.specs.Step.{state_of};
-ghost use Rattle.bc_history.specs.Next.{port_input, records_of};
-ghost use Rattle.bc_history.specs.World.{Event, Ended, Finished, Events, IsEnd, IsWorld, next_status, stepped};
-ghost use Rattle.bc_top.specs.Cursor.{IsCursor, IsNextOf};
-ghost use Rattle.bc_top.specs.Loop.{AreOfPorts, IsFirstDue, IsNoneDue, IsOnTheWay, IsQuiet, empty_logs, entry_by, logs_after, loop_run, ports_after, ticks_of, waiting_world};
+ghost use Rattle.bc_history.specs.Next.{input_of, port_input, record_or_timer, records_of};
+ghost use Rattle.bc_history.specs.World.{port_reading, Event, Ended, Finished, Events, IsEnd, IsWorld, next_status, stepped};
+ghost use Rattle.bc_top.specs.Cursor.{AreCursors, IsCursor, IsNextOf, taken_by};
+ghost use Rattle.bc_top.specs.Loop.{AreOfPorts, IsDueAt, IsFirstDue, IsNoneDue, IsOnTheWay, IsQuiet, empty_logs, entry_by, logs_after, loop_run, ports_after, reading_by, ticks_of, waiting_world};
 ghost use Rattle.bc_top.specs.Ticks.{IsFirstTick, IsNoneTick};
 
 /// After inputs of ports alone the followers are as they began, and no query came.
@@ -57,4 +62,20 @@ pub fn cursors_stand_at_the_next()
     ensures next { (records : List Record) (p taken c next : ℕ) (r : Record) → IsCursor records p taken c → slice_get records c ≡ Some r
         → IsNextOf records p (c + 1) next → IsCursor records p (taken + 1) next }
     ensures taken { (s : Scenario) (p taken c : ℕ) → IsCursor s.records p taken c → slice_get (records_of s p) taken ≡ slice_get s.records c }
+{}
+
+/// What is due at a port is of that port, by the configuration that the scenario has for it; and its next
+/// input is the record at its cursor or its timer, which cursors that are moved by records alone tell.
+pub fn ports_go_by_their_cursors()
+    ensures number { (s : Scenario) (entries : List Entry) (k : ℕ) (input : Input) → IsDueAt s (ports_after s entries) k input → port_of input ≡ Some (k + 1) }
+    ensures reading { (s : Scenario) (entries : List Entry) (logs : List (List LogEntry)) (k : ℕ) (h : HubPort) (conf : PortConf) (input : Input)
+        → slice_get (ports_after s entries) k ≡ Some h → slice_get s.ports k ≡ Some conf → port_reading s (waiting_world s entries logs) h input ≡ reading_by s entries logs conf input }
+    ensures input { (s : Scenario) (entries : List Entry) (k c : ℕ) (h : HubPort) → slice_get (ports_after s entries) k ≡ Some h → IsCursor s.records (k + 1) (taken_by (k + 1) entries) c
+        → port_input s h ≡ record_or_timer (k + 1) (slice_get s.records c) (due_of h.port.timers) }
+    ensures begins { (s : Scenario) (cursors : List ℕ) → ((k c : ℕ) → slice_get cursors k ≡ Some c → IsNextOf s.records (k + 1) 0 c) → AreCursors s [] cursors }
+    ensures timer { (s : Scenario) (entries : List Entry) (cursors : List ℕ) (e : Entry) (p tick : ℕ) (timer : Timer) → AreCursors s entries cursors
+        → e.input ≡ Timed p tick timer → AreCursors s (e ∷ entries) cursors }
+    ensures taken { (s : Scenario) (entries : List Entry) (cursors : List ℕ) (e : Entry) (k c next : ℕ) (r : Record) → AreCursors s entries cursors
+        → slice_get cursors k ≡ Some c → slice_get s.records c ≡ Some r → e.input ≡ input_of (k + 1) r.tick r.what → IsNextOf s.records (k + 1) (c + 1) next
+        → AreCursors s (e ∷ entries) (slice_set cursors k next) }
 {}
