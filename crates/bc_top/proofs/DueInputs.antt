@@ -52,8 +52,7 @@ tick-none s ports none = λ k t at. let d = due-tick s ports k t at in none k d.
 -- what the first of the ticks says of the ports: the first one's input is due first
 due-first : (s : Scenario) (ports : List HubPort) (k : ℕ) (f : IsFirstTick (ticks_of s ports) s.options.duration k) → (input : Input) × IsFirstDue s ports k input
 due-first s ports k f =
-    let d = due-tick s ports k f.tick f.due in
-    (
+    let d = due-tick s ports k f.tick f.due in (
       d.input,
       record {
         due = d.due;

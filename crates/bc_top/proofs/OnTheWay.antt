@@ -138,10 +138,9 @@ OnTheWay-done s entries logs quiet way none =
 -- where no more entries may be held and one is due, the World ends with Events
 pub OnTheWay-full : (s : Scenario) (entries : List Entry) (logs : List (List LogEntry)) (k : ℕ) (input : Input) → IsQuiet s → IsOnTheWay s entries logs → IsFirstDue s (ports_after s entries) k input → 131071 ≤ length entries → IsEnd s Events
 OnTheWay-full s entries logs k input quiet way f full =
-    let w = waiting_world s entries logs in
-    (
+    let w = waiting_world s entries logs in (
       suc way.turns,
       status-next s way.turns w quiet way.going
-      ∙ (next-first s way.turns entries logs k input f.due.port quiet way.of_ports f f.due.there
-      ∙ stepped-full w (port_event s w (suc k) input (port_reading s w f.due.port input)) full),
+          ∙ (next-first s way.turns entries logs k input f.due.port quiet way.of_ports f f.due.there
+          ∙ stepped-full w (port_event s w (suc k) input (port_reading s w f.due.port input)) full),
     )

@@ -30,7 +30,7 @@ pub fn turns_are_of_the_first_due()
     ensures event { (s : Scenario) (n : ℕ) (entries : List Entry) (logs : List (List LogEntry)) (k : ℕ) (input : Input) (h : HubPort) → IsQuiet s → AreOfPorts entries
         → IsFirstDue s (ports_after s entries) k input → slice_get (ports_after s entries) k ≡ Some h → (entry_by s entries logs h input).effects.measure ≡ None
         → next_status s n (waiting_world s entries logs) None
-          ≡ stepped (waiting_world s entries logs) (Event (waiting_world s (entry_by s entries logs h input ∷ entries) (logs_after logs (entry_by s entries logs h input)))) }
+        ≡ stepped (waiting_world s entries logs) (Event (waiting_world s (entry_by s entries logs h input ∷ entries) (logs_after logs (entry_by s entries logs h input)))) }
     ensures finished { (s : Scenario) (n : ℕ) (entries : List Entry) (logs : List (List LogEntry)) → IsQuiet s → AreOfPorts entries → IsNoneDue s (ports_after s entries)
         → next_status s n (waiting_world s entries logs) None ≡ Ended (Finished (loop_run s entries logs)) }
 {}
@@ -53,6 +53,7 @@ pub fn the_loop_is_the_world()
 pub fn first_ticks_are_due_first()
     ensures first { (s : Scenario) (ports : List HubPort) (ticks : List (Option ℕ)) (k : ℕ) (h : HubPort) (input : Input) → ticks ≡ ticks_of s ports
         → IsFirstTick ticks s.options.duration k → slice_get ports k ≡ Some h → port_input s h ≡ Some input → IsFirstDue s ports k input }
+    ensures some { (s : Scenario) (ports : List HubPort) (ticks : List (Option ℕ)) (k : ℕ) → ticks ≡ ticks_of s ports → IsFirstTick ticks s.options.duration k → (input : Input) × IsFirstDue s ports k input }
     ensures none { (s : Scenario) (ports : List HubPort) (ticks : List (Option ℕ)) → ticks ≡ ticks_of s ports → IsNoneTick ticks s.options.duration → IsNoneDue s ports }
 {}
 
