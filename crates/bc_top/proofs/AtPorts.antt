@@ -1,5 +1,5 @@
 -- The next input of a port by its cursor, and what it is of.
-use Rattle.std.proofs.Common.{◌≡◌, ◌≢◌, ℕ, suc, ◌+◌, ◌<◌, Bool, true, false, cond, refl, sym, ap, subst, ◌∙◌, eqb, ltb, leb, arith, inl, inr, List, [], ◌∷◌, length, filter, set, get_or, get_or-set_other, get_or-set_same, Option, Some, None, slice_get, eq-eqb, ne_eqb}
+use Rattle.std.proofs.Common.{◌≡◌, ◌≢◌, ℕ, ◌+◌, ◌<◌, Bool, true, false, cond, refl, sym, ap, subst, ◌∙◌, eqb, ltb, arith, inl, inr, List, [], ◌∷◌, length, filter, set, get_or-set_other, get_or-set_same, Option, Some, None, slice_get, eq-eqb, ne_eqb}
 use Rattle.std.proofs.lemmas.Bool.Decides.{eqb_tells}
 use Rattle.std.proofs.lemmas.Option.{same_Some, slice_get_within, get_or_from_slice_get, slice_get-get_or}
 use Rattle.std.proofs.Math.ListN.{length-set}
@@ -15,9 +15,9 @@ use Rattle.bc_history.specs.declared.scenario.Happening.TheVariants.{Frame as Fr
 use Rattle.bc_history.specs.declared.scenario.Record.{Record}
 use Rattle.bc_history.specs.declared.scenario.Scenario.{Scenario}
 use Rattle.bc_history.specs.State.{HubPort}
-use Rattle.bc_history.specs.Inputs.{port_of, tick_of, is_read}
+use Rattle.bc_history.specs.Inputs.{port_of}
 use Rattle.bc_history.specs.Next.{port_input, records_of, record_or_timer, input_of}
-use Rattle.bc_history.specs.World.{port_reading, seen_of}
+use Rattle.bc_history.specs.World.{port_reading}
 use Rattle.bc_history.proofs.Faces.{port-state_of}
 use Rattle.bc_top.specs.Cursor.{is_record_of, taken_by, IsNextOf, IsCursor, AreCursors}
 use Rattle.bc_top.specs.Loop.{IsDueAt, ports_after, waiting_world, reading_by}

@@ -1,5 +1,5 @@
 -- Whose turn it is by the default rule, where only ports that wait may have one: that of the first least tick.
-use Rattle.std.proofs.Common.{◌≡◌, ℕ, zero, suc, ◌+◌, ◌<◌, ◌≤◌, Bool, true, false, cond, refl, sym, ap, subst, ◌∙◌, arith, inl, inr, List, [], ◌∷◌, fold, filter, Option, Some, None, slice_get, ltb, leb, leb-true, leb-false, lt-ltb, le-ltb, le-leb}
+use Rattle.std.proofs.Common.{◌≡◌, ℕ, zero, suc, ◌+◌, ◌<◌, ◌≤◌, Bool, true, false, cond, refl, sym, ap, subst, ◌∙◌, arith, inl, inr, List, [], ◌∷◌, fold, filter, Option, Some, None, ltb, leb, leb-true, lt-ltb, le-ltb, le-leb}
 use Rattle.std.proofs.lemmas.Bool.{cases_lt, lt-leb, false≢true}
 use Rattle.bc_history.specs.declared.entry.Who.TheVariants.{Port as A_port}
 use Rattle.bc_history.specs.World.{Candidate, sooner}

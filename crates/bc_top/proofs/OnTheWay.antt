@@ -1,5 +1,5 @@
 -- The loop over due ports is the World of a quiet scenario.
-use Rattle.std.proofs.Common.{◌≡◌, ℕ, zero, suc, ◌+◌, ◌<◌, ◌≤◌, true, false, cond, refl, sym, ap, subst, ◌∙◌, leb, arith, List, [], ◌∷◌, length, map, Option, Some, None, option_and_then, slice_get, le-leb}
+use Rattle.std.proofs.Common.{◌≡◌, ℕ, zero, suc, ◌<◌, ◌≤◌, true, false, cond, refl, sym, ap, subst, ◌∙◌, leb, arith, List, [], ◌∷◌, length, map, Option, Some, None, option_and_then, slice_get, le-leb}
 use Rattle.std.proofs.lemmas.Bool.{lt-leb}
 use Rattle.std.proofs.lemmas.Option.{slice_get_within, same_Some}
 use Rattle.ptp_base.specs.declared.port.PortConf.{PortConf}
@@ -10,14 +10,13 @@ use Rattle.bc_history.specs.declared.entry.Entry.{Entry}
 use Rattle.bc_history.specs.declared.entry.Input.{Input}
 use Rattle.bc_history.specs.declared.entry.Seen.{Seen}
 use Rattle.bc_history.specs.declared.entry.Who.{Who}
-use Rattle.bc_history.specs.declared.entry.Who.TheVariants.{Port as A_port}
 use Rattle.bc_history.specs.declared.scenario.Scenario.{Scenario}
 use Rattle.bc_history.specs.declared.scenario.Turns.{Turns}
 use Rattle.bc_history.specs.State.{HubPort}
 use Rattle.bc_history.specs.Inputs.{tick_of, changed_at}
 use Rattle.bc_history.specs.Effects.{entry_after}
 use Rattle.bc_history.specs.Next.{port_input}
-use Rattle.bc_history.specs.World.{World, PortPlace, Waits, Step, Event, Status, Going, Ended, End, Finished, Events, world_opening, with_entry, port_place, port_event, port_step, port_reading, step_of, default_turn, run_of, stepped, take_step, next_status, turned, turner_at, status_after, IsEnd, IsWorld}
+use Rattle.bc_history.specs.World.{World, PortPlace, Waits, Step, Event, Status, Going, Ended, Finished, Events, with_entry, port_place, port_event, port_step, port_reading, step_of, default_turn, stepped, take_step, next_status, turned, turner_at, status_after, IsEnd, IsWorld}
 use Rattle.bc_history.proofs.Faces.{ports-length}
 use Rattle.bc_top.specs.Loop.{IsQuiet, AreOfPorts, IsFirstDue, IsNoneDue, IsOnTheWay, waiting_world, empty_logs, logs_after, loop_run, ports_after, entry_by}
 use Rattle.bc_top.proofs.PortsOnly.{of_port-input}

@@ -1,5 +1,5 @@
 -- After inputs of ports alone the followers are as they began, and no query came.
-use Rattle.std.proofs.Common.{◌≡◌, ℕ, zero, suc, ◌+◌, ◌*◌, ◌<◌, Bool, true, false, cond, refl, ap, subst, ◌∙◌, eqb, ltb, arith, slice_get, List, [], ◌∷◌, length, replicate, Option, Some, None}
+use Rattle.std.proofs.Common.{◌≡◌, ℕ, zero, suc, ◌+◌, ◌*◌, Bool, true, false, cond, refl, ap, subst, ◌∙◌, eqb, ltb, arith, slice_get, List, [], ◌∷◌, length, replicate, Option, Some, None}
 use Rattle.ptp_profile.specs.declared.port.Timer.{Timer}
 use Rattle.bc_history.specs.declared.entry.Entry.{Entry}
 use Rattle.bc_history.specs.declared.entry.Input.{Input}

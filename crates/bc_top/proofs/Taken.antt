@@ -1,5 +1,5 @@
 -- The number of records that a port took is that of its records in the history.
-use Rattle.std.proofs.Common.{◌≡◌, ◌≢◌, ℕ, zero, suc, ◌+◌, Bool, true, false, cond, refl, sym, ap, subst, ◌∙◌, eqb, arith, inl, inr, List, [], ◌∷◌, length, map, filter, Option, Some, None, option_map, slice_get, eq-eqb, ne_eqb}
+use Rattle.std.proofs.Common.{◌≡◌, ◌≢◌, ℕ, zero, suc, ◌+◌, Bool, true, false, cond, refl, sym, ap, subst, ◌∙◌, eqb, arith, List, [], ◌∷◌, length, map, filter, Option, Some, None, option_map, slice_get, eq-eqb, ne_eqb}
 use Rattle.std.specs.Prelude.{◌&&◌}
 use Rattle.std.proofs.lemmas.Option.{slice_get-map, same_Some}
 use Rattle.ptp_base.specs.declared.identity.PortId.{PortId}

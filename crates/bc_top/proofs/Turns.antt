@@ -1,5 +1,5 @@
 -- The default turn of a World where all ports wait, in a quiet scenario.
-use Rattle.std.proofs.Common.{◌≡◌, ◌⊎◌, ℕ, zero, suc, ◌+◌, ◌*◌, ◌<◌, ◌≤◌, Bool, true, false, cond, refl, sym, ap, subst, ◌∙◌, leb, arith, inl, inr, List, [], ◌∷◌, ◌++◌, length, map, replicate, filter, filter_map, fold, Option, Some, None, option_map, slice_get}
+use Rattle.std.proofs.Common.{◌≡◌, ◌⊎◌, ℕ, zero, suc, ◌+◌, ◌<◌, Bool, true, false, cond, refl, sym, ap, subst, ◌∙◌, leb, arith, inl, inr, List, [], ◌∷◌, ◌++◌, length, map, replicate, filter, filter_map, fold, Option, Some, None, option_map, slice_get}
 use Rattle.std.proofs.lemmas.Bool.{lt-leb}
 use Rattle.std.proofs.lemmas.List.{append-nil}
 use Rattle.std.proofs.lemmas.List.Elements.{filter_map-append}
@@ -7,21 +7,20 @@ use Rattle.ptp_base.specs.declared.port.PortConf.{PortConf}
 use Rattle.ptp_profile.specs.declared.seats.LogEntry.{LogEntry}
 use Rattle.bc_history.specs.declared.entry.Entry.{Entry}
 use Rattle.bc_history.specs.declared.entry.Input.{Input}
-use Rattle.bc_history.specs.declared.entry.Who.{Who}
 use Rattle.bc_history.specs.declared.entry.Who.TheVariants.{Port as A_port, Queries as The_queries}
 use Rattle.bc_history.specs.declared.scenario.Asked.{Asked}
 use Rattle.bc_history.specs.declared.scenario.Scenario.{Scenario}
-use Rattle.bc_history.specs.State.{HubPort, Follower, State}
+use Rattle.bc_history.specs.State.{HubPort, State}
 use Rattle.bc_history.specs.Opening.{open_follower}
 use Rattle.bc_history.specs.Inputs.{tick_of}
 use Rattle.bc_history.specs.Step.{state_of}
 use Rattle.bc_history.specs.Next.{port_input, query_input, turn_tick}
-use Rattle.bc_history.specs.World.{World, Waits, Turns_next, PortPlace, FollowerPlace, Candidate, follower_count, due_candidate, port_due, port_candidates, follower_candidates, candidates, default_turn, first_of, or_else, sooner}
+use Rattle.bc_history.specs.World.{Waits, Turns_next, Candidate, follower_count, due_candidate, port_candidates, follower_candidates, candidates, default_turn, first_of, or_else, sooner}
 use Rattle.bc_history.proofs.Faces.{ports-length}
 use Rattle.bc_top.specs.Ticks.{IsFirstTick, IsNoneTick}
 use Rattle.bc_top.specs.Loop.{IsQuiet, AreOfPorts, waiting_world, ticks_of, ports_after}
 use Rattle.bc_top.proofs.Earliest.{candidate, waiting, waiting-none, waiting-busy, waiting-first}
-use Rattle.bc_top.proofs.PortsOnly.{followers-of_ports, queries-of_ports}
+use Rattle.bc_top.proofs.PortsOnly.{followers-of_ports}
 
 abbrev there : List (Option Candidate) → List Candidate
 there all = filter_map (λ c. c) all
