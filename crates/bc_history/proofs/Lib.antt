@@ -1,5 +1,6 @@
 pub mod States
 pub mod Following
+pub mod Faces
 pub mod Ends
 pub mod Exchanges
 pub mod Histories

@@ -16,6 +16,7 @@ pub use examples::{
 };
 pub use laws::{
     at_most_one_follows, exchanges_agree, has_one_end, moments_never_fall, nothing_follows_the_end,
+    ports_stay,
 };
 pub use ptp_profile::Logs;
 pub use scenario::{

@@ -1,4 +1,13 @@
 pub mod Best
+pub mod BestPort
+pub mod Cursors
+pub mod Earliest
+pub mod PortsOnly
+pub mod Turns
+pub mod DueInputs
+pub mod OnTheWay
+pub mod Taken
+pub mod AtPorts
 pub mod Lines
 pub mod SilentRun
 pub mod SilentWorld

@@ -1,10 +1,9 @@
 -- The lines of a transcript, piece by piece.
-use Rattle.std.proofs.Common.{◌≡◌, ℕ, suc, ◌+◌, ◌<◌, List, [], ◌∷◌, ◌++◌, length, map, take, get_or, pos, refl, sym, arith, append_assoc, codes, lit<}
+use Rattle.std.proofs.Common.{◌≡◌, ℕ, suc, ◌+◌, ◌<◌, List, [], ◌∷◌, ◌++◌, length, map, take, get_or, refl, sym, arith, append_assoc, codes, lit<}
 use Rattle.std.specs.Fmt.{decimal, signed_decimal}
 use Rattle.std.proofs.lemmas.Fmt.{decimal_digit}
 use Rattle.std.proofs.lemmas.List.{append-nil, take_more, map_more, length-map, length-take-le}
 use Rattle.model_clock.specs.declared.state.ClockState.{ClockState}
-use Rattle.ptp_profile.specs.declared.seats.Log.{Log}
 use Rattle.bc_history.specs.declared.entry.Entry.{Entry}
 use Rattle.bc_history.specs.Text.{state_name, effects_text, entry_text, entries_text, drift_text, log_text, logs_text}
 use Rattle.bc_top.specs.declared.replay.Fired.{Fired}

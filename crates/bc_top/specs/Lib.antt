@@ -4,6 +4,9 @@ pub mod Reading
 pub mod Writing
 pub mod Spelled
 pub mod Due
+pub mod Ticks
+pub mod Cursor
+pub mod Loop
 pub mod Ports
 pub mod Silent
 pub mod Call

@@ -4,6 +4,7 @@ ghost use Rattle.bc_top.specs.Due.{IsFirstDue, IsNoneDue};
 ghost use Rattle.bc_top.specs.Ports.{HasInterval, open_port, fired_port};
 ghost use Rattle.bc_top.specs.Silent.{IsSilent, run_of};
 
+use crate::due::earlier;
 use bc_history::{Moved, Scenario};
 use ptp_base::{NoMemory, PortConf, PortState, interval};
 use std::alloc::Global;
@@ -36,16 +37,6 @@ fn first_due(ports: &[PortNow], duration: u64) -> Option<(usize, u64)>
         }
     }
     best
-}
-
-/// The earlier of two, and the former one of equals.
-fn earlier(best: Option<(usize, u64)>, i: usize, tick: u64) -> Option<(usize, u64)>
-    ensures { MatchOption best (result ≡ Some (i, tick)) (λ b. (tick < b.1 → result ≡ Some (i, tick)) × (b.1 ≤ tick → result ≡ best)) }
-{
-    match best {
-        Some((_, least)) if least <= tick => best,
-        _ => Some((i, tick)),
-    }
 }
 
 /// The ports as a run begins.
