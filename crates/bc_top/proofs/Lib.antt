@@ -1,6 +1,9 @@
 pub mod Best
-pub mod Lines
+pub mod Texts
 pub mod SilentRun
 pub mod SilentWorld
 pub mod Reached
 pub mod Exact
+pub mod Early
+pub mod Quiet
+pub mod Lines

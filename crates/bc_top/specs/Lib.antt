@@ -9,3 +9,4 @@ pub mod Silent
 pub mod Call
 pub mod Causes
 pub mod Complete
+pub mod Lines

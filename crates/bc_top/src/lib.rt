@@ -4,6 +4,7 @@
 mod outcome;
 mod read;
 mod replay;
+mod run;
 mod scenario;
 mod top;
 mod transcript;
