@@ -9,7 +9,10 @@ pub mod OnTheWay
 pub mod Taken
 pub mod AtPorts
 pub mod Lines
+pub mod Texts
 pub mod SilentRun
 pub mod SilentWorld
 pub mod Reached
 pub mod Exact
+pub mod Early
+pub mod Quiet

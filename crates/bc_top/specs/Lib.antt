@@ -12,3 +12,4 @@ pub mod Silent
 pub mod Call
 pub mod Causes
 pub mod Complete
+pub mod Lines

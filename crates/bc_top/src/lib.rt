@@ -7,6 +7,7 @@ pub mod laws;
 mod outcome;
 mod read;
 mod replay;
+mod run;
 mod scenario;
 mod top;
 mod transcript;
