@@ -7,8 +7,8 @@ mod laws;
 mod scenario;
 
 pub use entry::{
-    Answers, AskError, Effects, Entries, Entry, Input, Logs, Moved, Moves, Outcome, RoleOrders,
-    Run, Seen, Sends, Sent, Told, Who,
+    Effects, Entries, Entry, Input, Logs, Moved, Moves, Outcome, RoleOrders, Run, Seen, Sends,
+    Sent, Told, Who,
 };
 pub use examples::{
     class_decides, follows_a_master, follows_on_one_clock, frames_pair, handed_over, log_is_full,
@@ -17,6 +17,7 @@ pub use examples::{
 pub use laws::{
     at_most_one_follows, exchanges_agree, has_one_end, moments_never_fall, nothing_follows_the_end,
 };
+pub use ptp_profile::management::{Answers, AskError};
 pub use scenario::{
     Asked, AskedList, ClockStates, Happening, Options, PortConfs, Record, RecordList, Scenario,
     Turner, Turns, TurnsList,

@@ -6,7 +6,8 @@ use Rattle.std.proofs.lemmas.List.{append-nil, take_more, map_more, length-map, 
 use Rattle.model_clock.specs.declared.state.ClockState.{ClockState}
 use Rattle.ptp_profile.specs.declared.seats.Log.{Log}
 use Rattle.bc_history.specs.declared.entry.Entry.{Entry}
-use Rattle.bc_history.specs.Text.{state_name, effects_text, entry_text, entries_text, drift_text, log_text, logs_text}
+use Rattle.ptp_profile.specs.Naming.{state_name}
+use Rattle.bc_history.specs.Text.{effects_text, entry_text, entries_text, drift_text, log_text, logs_text}
 use Rattle.bc_top.specs.declared.replay.Fired.{Fired}
 use Rattle.bc_top.specs.Silent.{entry_of, quiet_log, quiet_logs}
 

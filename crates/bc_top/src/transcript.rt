@@ -1,5 +1,6 @@
 ghost use Rattle.std.specs.Prelude.{◌≡◌, ℕ, ◌+◌, ◌-◌, ◌^◌, ◌<◌, ◌≤◌, ◌++◌, List, length, take, map, OnOk, IfOk, string_bytes, codes};
-ghost use Rattle.bc_history.specs.Text.{state_name, entry_text, entries_text, log_text, logs_text, text_of};
+ghost use Rattle.ptp_profile.specs.Naming.{state_name};
+ghost use Rattle.bc_history.specs.Text.{entry_text, entries_text, log_text, logs_text, text_of};
 ghost use Rattle.bc_top.specs.Silent.{entry_of, quiet_log, quiet_logs, run_of};
 
 use crate::replay::Fired;

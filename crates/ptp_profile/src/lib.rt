@@ -4,6 +4,7 @@
 
 mod best_master;
 mod foreign;
+pub mod management;
 mod message;
 mod port;
 mod role_laws;
