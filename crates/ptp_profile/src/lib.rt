@@ -5,6 +5,7 @@
 mod best_master;
 mod foreign;
 pub mod management;
+mod management_laws;
 mod message;
 mod port;
 mod role_laws;
@@ -19,6 +20,9 @@ pub use best_master::{
     pass_in_order, paths_compared, ports_decided, qualified_set, two_qualify,
 };
 pub use foreign::{Heard, KeptAnnounce, Order, PortBest};
+pub use management_laws::{
+    holds_management_numbers, managed_is_what_is_read, one_management_spelling,
+};
 pub use message::{Body, Message, Reject, Said};
 pub use port::{Fate, PortEvent, Timer};
 pub use role_laws::{

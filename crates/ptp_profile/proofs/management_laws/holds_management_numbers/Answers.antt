@@ -1,0 +1,7 @@
+use Rattle.std.proofs.Common.{rules}
+use Rattle.ptp_profile.specs.Management.{FitsManaged}
+use Rattle.ptp_profile.proofs.ManagedLemmas.{managed_again}
+use Rattle.ptp_profile.proofs.management_laws.holds_management_numbers.Goals as goal
+
+pub returns-clause-again : goal.returns-clause-again
+returns-clause-again c = let fits : FitsManaged c.args.m.now = search rules in λ domain rest. managed_again domain c.args.m.now rest fits
