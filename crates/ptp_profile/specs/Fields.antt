@@ -1,6 +1,6 @@
 -- The table of management messages: their names, numbers and fields, and how each field is printed
 -- (IEEE 1588-2019, 15.5.2.3 and 15.5.3; the printed names are linuxptp's).
-use Rattle.std.specs.Prelude.{ℕ, ◌+◌, ◌%◌, ◌==◌, if◌then◌else◌, List, [], ◌∷◌, ◌++◌, length, take, drop, slice_index, codes, Option}
+use Rattle.std.specs.Prelude.{ℕ, ◌+◌, ◌%◌, ◌==◌, ◌&&◌, nat_le, Bool, true, if◌then◌else◌, List, [], ◌∷◌, ◌++◌, length, take, drop, slice_index, codes, Option}
 use Rattle.std.specs.List.{find}
 use Rattle.std.specs.Fmt.{decimal, signed_decimal}
 use Rattle.byteorder.specs.Endian.{big_bytes, big_number, twos_complement}
@@ -158,6 +158,18 @@ state_numbered n =
     else if n == 8 then Uncalibrated
     else Slave
 
+-- the widths of fields that are printed so
+abbrev pub fits_form : Form → ℕ → Bool
+fits_form Silent width = true
+fits_form Flag width = width == 1
+fits_form Decimal width = nat_le 1 width && nat_le width 8
+fits_form Signed width = nat_le 1 width && nat_le width 8
+fits_form Hex width = true
+fits_form Clock width = width == 8
+fits_form Port width = width == 10
+fits_form State width = width == 1
+
+-- the octets of a field as text
 abbrev pub form_text : Form → List ℕ → List ℕ
 form_text Silent piece = []
 form_text Flag piece = decimal (slice_index piece 0 % 2)

@@ -211,17 +211,23 @@ is_for d r = (r.target.clock.id == all_clocks) || (r.target.clock.id == d.own.se
 abbrev pub ports_asked : AnsweringSets → Managed → List AnsweringPort
 ports_asked d r = filter (λ p. (r.target.port == all_ports) || (r.target.port == p.id.port)) d.ports
 
--- the responses to a request for the values of a management message
+-- whether the values are a port's own
+abbrev pub is_of_ports : ManagementId → Bool
+is_of_ports PortDataSet = true
+is_of_ports NullManagement = false
+is_of_ports DefaultDataSet = false
+is_of_ports CurrentDataSet = false
+is_of_ports ParentDataSet = false
+is_of_ports TimePropertiesDataSet = false
+is_of_ports Priority1 = false
+is_of_ports Priority2 = false
+is_of_ports Domain = false
+
+-- the responses to a request for the values of a management message: of the clock, or of each port that is asked
 abbrev pub responses : AnsweringSets → Managed → ManagementId → List Managed
-responses d r NullManagement = response_to d r 0 NullManagement (clock_values d NullManagement) ∷ []
-responses d r DefaultDataSet = response_to d r 0 DefaultDataSet (clock_values d DefaultDataSet) ∷ []
-responses d r CurrentDataSet = response_to d r 0 CurrentDataSet (clock_values d CurrentDataSet) ∷ []
-responses d r ParentDataSet = response_to d r 0 ParentDataSet (clock_values d ParentDataSet) ∷ []
-responses d r TimePropertiesDataSet = response_to d r 0 TimePropertiesDataSet (clock_values d TimePropertiesDataSet) ∷ []
-responses d r PortDataSet = map (λ p. response_to d r p.id.port PortDataSet (port_values p)) (ports_asked d r)
-responses d r Priority1 = response_to d r 0 Priority1 (clock_values d Priority1) ∷ []
-responses d r Priority2 = response_to d r 0 Priority2 (clock_values d Priority2) ∷ []
-responses d r Domain = response_to d r 0 Domain (clock_values d Domain) ∷ []
+responses d r id =
+    if is_of_ports id then map (λ p. response_to d r p.id.port id (port_values p)) (ports_asked d r)
+    else response_to d r 0 id (clock_values d id) ∷ []
 
 -- whether a clock of the standard lets it be set
 abbrev pub can_be_set : ManagementId → Bool
@@ -235,21 +241,21 @@ can_be_set Priority1 = true
 can_be_set Priority2 = true
 can_be_set Domain = true
 
--- the answers to a request for a management message, by its action: a command is not supported, nothing is set, and a request for
--- values has no octets behind the id or as many as the answer
-abbrev pub known_answers : AnsweringSets → Managed → ManagementId → List ℕ → Action → List Managed
-known_answers d r id octets Command = error_to d r (id_number id) not_supported
-known_answers d r id octets Set = error_to d r (id_number id) (if can_be_set id then not_supported else not_setable)
-known_answers d r id octets Get =
-    if (length octets == 0) || (length octets == width_of (id_fields id)) then responses d r id
+-- the answers to a request for a management message, with so many octets behind the id, by its action: a command is not supported,
+-- nothing is set, and a request for values has no octets there or as many as the answer
+abbrev pub known_answers : AnsweringSets → Managed → ManagementId → ℕ → Action → List Managed
+known_answers d r id long Command = error_to d r (id_number id) not_supported
+known_answers d r id long Set = error_to d r (id_number id) (if can_be_set id then not_supported else not_setable)
+known_answers d r id long Get =
+    if (long == 0) || (long == width_of (id_fields id)) then responses d r id
     else error_to d r (id_number id) wrong_length
-known_answers d r id octets Response = []
-known_answers d r id octets Acknowledge = []
+known_answers d r id long Response = []
+known_answers d r id long Acknowledge = []
 
 -- the same for any id
-abbrev pub id_answers : AnsweringSets → Managed → ℕ → List ℕ → Option ManagementId → List Managed
-id_answers d r n octets None = error_to d r n no_such_id
-id_answers d r n octets (Some id) = known_answers d r id octets r.action
+abbrev pub id_answers : AnsweringSets → Managed → ℕ → ℕ → Option ManagementId → List Managed
+id_answers d r n long None = error_to d r n no_such_id
+id_answers d r n long (Some id) = known_answers d r id long r.action
 
 -- what asks for an answer
 abbrev pub is_request : Action → Bool
@@ -261,7 +267,7 @@ is_request Acknowledge = false
 
 abbrev pub tlv_answers : AnsweringSets → Managed → Tlv → List Managed
 tlv_answers d r (Error error id) = []
-tlv_answers d r (Management n octets) = id_answers d r n octets (id_numbered n)
+tlv_answers d r (Management n octets) = id_answers d r n (length octets) (id_numbered n)
 
 -- the answers to a management message: none, where it is no request or not for this clock
 unfoldable pub answers_to : AnsweringSets → Managed → List Managed

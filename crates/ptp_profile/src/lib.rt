@@ -7,6 +7,7 @@ mod foreign;
 pub mod management;
 mod management_laws;
 mod message;
+pub mod numbers;
 mod port;
 mod role_laws;
 mod roles;
@@ -22,6 +23,7 @@ pub use best_master::{
 pub use foreign::{Heard, KeptAnnounce, Order, PortBest};
 pub use management_laws::{
     holds_management_numbers, managed_is_what_is_read, one_management_spelling,
+    tests_tell_management,
 };
 pub use message::{Body, Message, Reject, Said};
 pub use port::{Fate, PortEvent, Timer};
