@@ -7,8 +7,8 @@ mod laws;
 mod scenario;
 
 pub use entry::{
-    Answers, AskError, Effects, Entries, Entry, Input, Moved, Moves, Outcome, RoleOrders, Run,
-    Seen, Sends, Sent, Told, Who,
+    Effects, Entries, Entry, Input, Moved, Moves, Outcome, RoleOrders, Run, Seen, Sends, Sent, Told,
+    Who,
 };
 pub use examples::{
     class_decides, follows_a_master, follows_on_one_clock, frames_pair, handed_over, log_is_full,
@@ -19,6 +19,7 @@ pub use laws::{
     ports_stay,
 };
 pub use ptp_profile::Logs;
+pub use ptp_profile::management::{Answers, AskError};
 pub use scenario::{
     Asked, AskedList, ClockStates, Happening, Options, PortConfs, Record, RecordList, Scenario,
     Turner, Turns, TurnsList,

@@ -8,7 +8,8 @@ use Rattle.ptp_profile.specs.declared.seats.Log.{Log}
 use Rattle.bc_history.specs.declared.entry.Entry.{Entry}
 use Rattle.bc_history.specs.declared.entry.Sent.{Sent}
 use Rattle.bc_top.specs.Lines.{order_text, frame_text, answer_text}
-use Rattle.bc_history.specs.Text.{◌<>◌, orders_text, frames_text, answers_text, input_text, seen_text, effects_text, entry_text, drift_text, log_entries_text, log_text}
+use Rattle.ptp_profile.specs.Naming.{◌<>◌}
+use Rattle.bc_history.specs.Text.{orders_text, frames_text, answers_text, input_text, seen_text, effects_text, entry_text, drift_text, log_entries_text, log_text}
 
 pub orders_text-more : (order : RoleOrder) (orders : List RoleOrder) → orders_text (order ∷ orders) ≡ order_text order ++ orders_text orders
 unfolding order_text

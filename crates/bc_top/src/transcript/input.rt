@@ -1,5 +1,6 @@
 ghost use Rattle.std.specs.Prelude.{◌≡◌, ℕ, List, ◌++◌, OnOk, codes};
-ghost use Rattle.bc_history.specs.Text.{◌<>◌, reading_text, seen_text, action_text, outcome_text, input_text};
+ghost use Rattle.ptp_profile.specs.Naming.{◌<>◌};
+ghost use Rattle.bc_history.specs.Text.{reading_text, seen_text, action_text, outcome_text, input_text};
 
 use crate::transcript::names::timer_name;
 use crate::transcript::writer::Writer;

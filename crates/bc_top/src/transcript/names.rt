@@ -1,5 +1,6 @@
 ghost use Rattle.std.specs.Prelude.{◌≡◌, ℕ, List, ◌++◌, length, OnOk};
-ghost use Rattle.bc_history.specs.Text.{timer_name, state_name, drop_name, fate_name, asked_name, identity_text, port_text};
+ghost use Rattle.ptp_profile.specs.Naming.{state_name, identity_text, port_text};
+ghost use Rattle.bc_history.specs.Text.{timer_name, drop_name, fate_name, asked_name};
 
 use crate::transcript::writer::Writer;
 use bc_history::AskError;
