@@ -14,3 +14,4 @@ pub mod World
 pub mod Silent
 pub mod Examples
 pub mod Text
+pub mod OptionTable

@@ -4,6 +4,8 @@
 mod entry;
 mod examples;
 mod laws;
+mod option;
+mod option_laws;
 mod scenario;
 
 pub use entry::{
@@ -17,6 +19,8 @@ pub use examples::{
 pub use laws::{
     at_most_one_follows, exchanges_agree, has_one_end, moments_never_fall, nothing_follows_the_end,
 };
+pub use option::{Form, OptionName, Scope};
+pub use option_laws::{defaults_are_of_the_table, options_are_named};
 pub use scenario::{
     Asked, AskedList, ClockStates, Happening, Options, PortConfs, Record, RecordList, Scenario,
     Turner, Turns, TurnsList,
