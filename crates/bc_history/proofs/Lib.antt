@@ -4,3 +4,4 @@ pub mod Faces
 pub mod Ends
 pub mod Exchanges
 pub mod Histories
+pub mod OptionLaws

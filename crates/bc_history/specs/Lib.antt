@@ -15,3 +15,4 @@ pub mod World
 pub mod Silent
 pub mod Examples
 pub mod Text
+pub mod OptionTable

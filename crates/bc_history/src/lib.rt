@@ -4,6 +4,8 @@
 mod entry;
 mod examples;
 mod laws;
+mod option;
+mod option_laws;
 mod scenario;
 
 pub use entry::{
@@ -20,6 +22,8 @@ pub use laws::{
 };
 pub use ptp_profile::Logs;
 pub use ptp_profile::management::{Answers, AskError};
+pub use option::{Form, OptionName, Scope};
+pub use option_laws::{defaults_are_of_the_table, options_are_named};
 pub use scenario::{
     Asked, AskedList, ClockStates, Happening, Options, PortConfs, Record, RecordList, Scenario,
     Turner, Turns, TurnsList,
