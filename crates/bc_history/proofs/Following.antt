@@ -45,15 +45,15 @@ use Rattle.bc_history.proofs.States.{state-after_event, keeps_to_itself, IsOwnEv
 -- ---- what an input leaves of a port
 
 -- two ports have one identity, one configuration and one state
-record Alike (p q : Port) : Type 0 where
-  id : p.id ≡ q.id
-  conf : p.conf ≡ q.conf
-  state : p.state ≡ q.state
+pub record Alike (p q : Port) : Type 0 where
+  pub id : p.id ≡ q.id
+  pub conf : p.conf ≡ q.conf
+  pub state : p.state ≡ q.state
 
 alike : (p : Port) → Alike p p
 alike p = record { id = refl; conf = refl; state = refl }
 
-fired_alike : (tick : ℕ) (seen : ℤ) (timer : Timer) (p : Port) → Alike (fired tick seen timer p) p
+pub fired_alike : (tick : ℕ) (seen : ℤ) (timer : Timer) (p : Port) → Alike (fired tick seen timer p) p
 fired_alike tick seen AnnounceReceipt p = record { id = refl; conf = refl; state = refl }
 fired_alike tick seen Qualification p = record { id = refl; conf = refl; state = refl }
 fired_alike tick seen AnnounceSend p = record { id = refl; conf = refl; state = refl }
@@ -71,7 +71,7 @@ response_alike message (DelayReq origin) p = alike p
 response_alike message (FollowUp precise) p = alike p
 response_alike message (Announce origin said) p = alike p
 
-timing_alike : (message : Message) (seen : ℤ) (fate : Fate) (p : Port) → Alike (after_timing message seen fate p) p
+pub timing_alike : (message : Message) (seen : ℤ) (fate : Fate) (p : Port) → Alike (after_timing message seen fate p) p
 timing_alike message seen Asleep p = alike p
 timing_alike message seen (Dropped reject) p = alike p
 timing_alike message seen Own p = alike p
