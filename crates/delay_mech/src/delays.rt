@@ -130,7 +130,7 @@ impl Delays {
         ensures exact { result ≡ median self.now.delays }
         ensures all { (all : List ℤ) → Remembers self.now all → result ≡ mean_of self.now.length all }
 
-    // It is from -2^82 to 2^82.
+        // It is from -2^82 to 2^82.
         ensures within { IfSome result IsDelay }
     {
         let mut numbers = [0; 32];
