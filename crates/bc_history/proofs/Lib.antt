@@ -3,3 +3,4 @@ pub mod Following
 pub mod Ends
 pub mod Exchanges
 pub mod Histories
+pub mod Texts

@@ -4,7 +4,10 @@
 mod entry;
 mod examples;
 mod laws;
+mod option;
 mod scenario;
+mod section;
+mod text_laws;
 
 pub use entry::{
     Answers, AskError, Effects, Entries, Entry, Input, Logs, Moved, Moves, Outcome, RoleOrders,
@@ -17,7 +20,10 @@ pub use examples::{
 pub use laws::{
     at_most_one_follows, exchanges_agree, has_one_end, moments_never_fall, nothing_follows_the_end,
 };
+pub use option::{Form, OptionName, Scope};
+pub use section::{Header, Role, Section};
 pub use scenario::{
     Asked, AskedList, ClockStates, Happening, Options, PortConfs, Record, RecordList, Scenario,
     Turner, Turns, TurnsList,
 };
+pub use text_laws::{a_text_stands_or_is_faulty, one_fault_is_first, one_scenario_stands, texts_are_judged};
