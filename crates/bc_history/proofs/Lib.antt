@@ -4,3 +4,4 @@ pub mod Ends
 pub mod Exchanges
 pub mod Histories
 pub mod Texts
+pub mod OptionLaws

@@ -5,6 +5,7 @@ mod entry;
 mod examples;
 mod laws;
 mod option;
+mod option_laws;
 mod scenario;
 mod section;
 mod text_laws;
@@ -22,6 +23,7 @@ pub use laws::{
 };
 pub use option::{Form, OptionName, Scope};
 pub use section::{Header, Role, Section};
+pub use option_laws::{defaults_are_of_the_table, options_are_named};
 pub use scenario::{
     Asked, AskedList, ClockStates, Happening, Options, PortConfs, Record, RecordList, Scenario,
     Turner, Turns, TurnsList,
