@@ -41,13 +41,14 @@ pub fn signed(word: &[u8]) -> Option<i128>
     }
 }
 
-/// `0x`, and 1 to `most` hex digits of either case, where `most` is at most 32.
-pub fn hex_number(word: &[u8], most: usize) -> Option<u128>
-    requires { most ≤ 32 }
+/// `0x`, and 1 to `most` hex digits of either case, where `most` is at most 16.
+pub fn hex_number(word: &[u8], most: usize) -> Option<u64>
+    requires { most ≤ 16 }
     ensures { result ≡ hex_of most word.now }
 {
     if word.starts_with(b"0x") {
-        numeral(&word[2..], 16, most)
+        let n = numeral(&word[2..], 16, most)?;
+        Some(n as u64)
     } else {
         None
     }
@@ -80,7 +81,8 @@ fn point(word: &[u8]) -> Option<usize>
 
 /// Seconds in ns: a number, or a number, a point and 1 to 9 digits.
 pub fn seconds(word: &[u8]) -> Option<u128>
-    ensures { result ≡ seconds_of word.now }
+    ensures value { result ≡ seconds_of word.now }
+    ensures bound { IfSome result (λ n. n < 2 ^ 127) }
 {
     match point(word) {
         None => whole(word),
