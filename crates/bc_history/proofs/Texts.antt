@@ -41,9 +41,9 @@ none_or_first lines (suc k) =
 
 pub stands_or_faulty : (text : List ℕ) → ((s : Scenario) × Stands text s) ⊎ ((line : ℕ) × (reason : Reason) × IsFirstFault text line reason)
 stands_or_faulty text = elim (none_or_first (lines_of_text text) (line_count text + 1)) [
-    | inl none ↦ inl (scenario_of (draft_of (lines_of_text text)), record { faultless = λ n le. none n (omega arith); said = refl })
-    | inr f ↦ inr (f.index + 1, f.reason, record { index = f.index; counted = refl; within = omega (arith, f.below); faulty = f.faulty; least = f.least })
-  ]
+  | inl none ↦ inl (scenario_of (draft_of (lines_of_text text)), record { faultless = λ n le. none n (omega arith); said = refl })
+  | inr f ↦ inr (f.index + 1, f.reason, record { index = f.index; counted = refl; within = omega (arith, f.below); faulty = f.faulty; least = f.least })
+]
 
 -- ---- no fault is that something is not built
 

@@ -124,10 +124,16 @@ turner_of ports clocks name number = option_and_then by (number_of number)
         else if is_word name (codes "clock") && is_follower clocks n then Some (Clock n)
         else None
 
-abbrev pub turns_of : List PortConf → List ClockState → List (List ℕ) → Option Turns
-turns_of ports clocks (name ∷ count ∷ []) =
+abbrev pub plain_turns : (name count : List ℕ) → Option Turns
+plain_turns name count =
     if is_word name (codes "default") then turns_by Default count
     else if is_word name (codes "queries") then turns_by Queries count
     else None
-turns_of ports clocks (name ∷ number ∷ count ∷ []) = option_and_then (λ who. turns_by who count) (turner_of ports clocks name number)
+
+abbrev pub placed_turns : List PortConf → List ClockState → (name number count : List ℕ) → Option Turns
+placed_turns ports clocks name number count = option_and_then (λ who. turns_by who count) (turner_of ports clocks name number)
+
+abbrev pub turns_of : List PortConf → List ClockState → List (List ℕ) → Option Turns
+turns_of ports clocks (name ∷ count ∷ []) = plain_turns name count
+turns_of ports clocks (name ∷ number ∷ count ∷ []) = placed_turns ports clocks name number count
 turns_of ports clocks _ = None

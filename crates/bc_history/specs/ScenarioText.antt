@@ -67,8 +67,12 @@ is_on_another (Some first) clock = not (first.clock == clock)
 abbrev pub breaks_jbod : Draft → ℕ → Bool
 breaks_jbod d clock = not d.options.boundary_clock_jbod && is_on_another (slice_get d.ports 0) clock
 
+-- the header of a section that stands alone
+abbrev pub sole_tests : Draft → Bool → Section → Tests
+sole_tests d good section = (is_misplaced d section, Order) ∷ (not good, Value) ∷ []
+
 abbrev pub header_tests : Draft → Bool → Header → Tests
-header_tests d good Global = (is_misplaced d (In_options The_whole), Order) ∷ (not good, Value) ∷ []
+header_tests d good Global = sole_tests d good (In_options The_whole)
 header_tests d good (Clock n) =
     (is_misplaced d (In_options A_clock) || not (n == length d.clocks), Order)
     ∷ (not good, Value)
@@ -80,9 +84,9 @@ header_tests d good (Port n clock) =
     ∷ (n == 33, Limit)
     ∷ (breaks_jbod d clock, Jbod)
     ∷ []
-header_tests d good Records = (is_misplaced d In_records, Order) ∷ (not good, Value) ∷ []
-header_tests d good Queries = (is_misplaced d In_queries, Order) ∷ (not good, Value) ∷ []
-header_tests d good Schedule = (is_misplaced d In_schedule, Order) ∷ (not good, Value) ∷ []
+header_tests d good Records = sole_tests d good In_records
+header_tests d good Queries = sole_tests d good In_queries
+header_tests d good Schedule = sole_tests d good In_schedule
 
 -- `NAME VALUE`
 abbrev pub setting_of : OptionName → List (List ℕ) → Option ℤ
@@ -97,12 +101,15 @@ option_of scope (name ∷ rest) = option_named scope name
 abbrev pub stands_in : List OptionName → OptionName → Bool
 stands_in named option = list_any (λ other. sameb (declared enum) other option) named
 
+abbrev pub set_tests : Draft → Bool → OptionName → Option ℤ → Tests
+set_tests d good option value =
+    (stands_in d.named option, Repeated)
+    ∷ (is_none value || not good, Value)
+    ∷ []
+
 abbrev pub option_tests : Draft → Bool → List (List ℕ) → Option OptionName → Tests
 option_tests d good words None = (true, UnknownOption) ∷ []
-option_tests d good words (Some option) =
-    (stands_in d.named option, Repeated)
-    ∷ (is_none (setting_of option words) || not good, Value)
-    ∷ []
+option_tests d good words (Some option) = set_tests d good option (setting_of option words)
 
 abbrev pub is_lost : List PortConf → Option Record → Bool
 is_lost ports None = true
@@ -112,26 +119,35 @@ abbrev pub is_great_record : Option Record → Bool
 is_great_record None = false
 is_great_record (Some r) = nat_lt last_tick r.tick || nat_lt longest_frame (frame_length r.what)
 
-abbrev pub record_tests : Draft → Bool → List (List ℕ) → Tests
-record_tests d good words =
-    (is_early_record d.ports d.records words, Order)
-    ∷ (is_lost d.ports (record_of words) || not good, Value)
-    ∷ (is_great_record (record_of words), Limit)
+abbrev pub found_tests : Draft → (is_early : Bool) → Option Record → Bool → Tests
+found_tests d is_early found good =
+    (is_early, Order)
+    ∷ (is_lost d.ports found || not good, Value)
+    ∷ (is_great_record found, Limit)
     ∷ []
+
+abbrev pub record_tests : Draft → Bool → List (List ℕ) → Tests
+record_tests d good words = found_tests d (is_early_record d.ports d.records words) (record_of words) good
 
 abbrev pub is_great_query : Option Asked → Bool
 is_great_query None = false
 is_great_query (Some asked) = nat_lt last_tick asked.tick || nat_lt longest_query (length asked.text)
 
-abbrev pub query_tests : Draft → Bool → List (List ℕ) → Tests
-query_tests d good words =
-    (is_early_query d.queries words, Order)
-    ∷ (is_none (query_of words) || not good, Value)
-    ∷ (is_great_query (query_of words), Limit)
+abbrev pub asked_tests : (is_early : Bool) → Option Asked → Bool → Tests
+asked_tests is_early asked good =
+    (is_early, Order)
+    ∷ (is_none asked || not good, Value)
+    ∷ (is_great_query asked, Limit)
     ∷ []
 
+abbrev pub query_tests : Draft → Bool → List (List ℕ) → Tests
+query_tests d good words = asked_tests (is_early_query d.queries words) (query_of words) good
+
+abbrev pub added_tests : Option Turns → Bool → Tests
+added_tests turns good = (is_none turns || not good, Value) ∷ []
+
 abbrev pub turn_tests : Draft → Bool → List (List ℕ) → Tests
-turn_tests d good words = (is_none (turns_of d.ports d.clocks words) || not good, Value) ∷ []
+turn_tests d good words = added_tests (turns_of d.ports d.clocks words) good
 
 abbrev pub tests_of : Draft → Bool → List (List ℕ) → Role → Tests
 tests_of d good words Skipped = []
@@ -162,13 +178,13 @@ with_setting d The_whole option value = record d { named = d.named ++ option ∷
 with_setting d A_clock option value = record d { named = d.named ++ option ∷ []; clocks = with_last (with_clock_option option value) d.clocks }
 with_setting d A_port option value = record d { named = d.named ++ option ∷ []; ports = with_last (with_port_option option value) d.ports }
 
+abbrev pub with_set : Draft → Scope → OptionName → Option ℤ → Draft
+with_set d scope option None = d
+with_set d scope option (Some value) = with_setting d scope option value
+
 abbrev pub with_option_line : Draft → Scope → List (List ℕ) → Option OptionName → Draft
 with_option_line d scope words None = d
-with_option_line d scope words (Some option) = by (setting_of option words)
-  where
-    by : Option ℤ → Draft
-    by None = d
-    by (Some value) = with_setting d scope option value
+with_option_line d scope words (Some option) = with_set d scope option (setting_of option words)
 
 abbrev pub and_one : {T : Type 0} → List T → Option T → List T
 and_one xs None = xs

@@ -22,10 +22,12 @@ pub use laws::{
     at_most_one_follows, exchanges_agree, has_one_end, moments_never_fall, nothing_follows_the_end,
 };
 pub use option::{Form, OptionName, Scope};
-pub use section::{Header, Role, Section};
 pub use option_laws::{defaults_are_of_the_table, options_are_named};
 pub use scenario::{
     Asked, AskedList, ClockStates, Happening, Options, PortConfs, Record, RecordList, Scenario,
     Turner, Turns, TurnsList,
 };
-pub use text_laws::{a_text_stands_or_is_faulty, one_fault_is_first, one_scenario_stands, texts_are_judged};
+pub use section::{Header, Role, Section};
+pub use text_laws::{
+    a_text_stands_or_is_faulty, one_fault_is_first, one_scenario_stands, texts_are_judged,
+};

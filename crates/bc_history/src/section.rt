@@ -16,10 +16,7 @@ pub enum Header {
     Global,
     Clock(u128),
     /// A port and the clock that it is on.
-    Port {
-        number: u128,
-        clock: u128,
-    },
+    Port { number: u128, clock: u128 },
     Records,
     Queries,
     Schedule,
