@@ -28,3 +28,5 @@ pub use text_io::Reason;
 
 #[cfg(test)]
 mod option_tests;
+#[cfg(test)]
+mod tests;
