@@ -1,8 +1,8 @@
 -- Texts stand for a scenario or have a first fault.
-use Rattle.std.proofs.Common.{◌≡◌, ◌⊎◌, ℕ, zero, suc, ◌+◌, ◌<◌, ◌≤◌, Bool, true, false, cond, List, [], ◌∷◌, length, take, Option, Some, None, refl, sym, ◌∙◌, ap, arith, inl, inr, below_more}
-use Rattle.std.specs.Prelude.{slice_get, if◌then◌else◌}
+use Rattle.std.proofs.Common.{◌≡◌, ◌⊎◌, ℕ, zero, suc, ◌+◌, ◌<◌, Bool, true, false, cond, List, [], ◌∷◌, take, Option, Some, None, refl, arith, inl, inr, below_more}
+use Rattle.std.specs.Prelude.{slice_get}
 use Rattle.text_io.specs.declared.reason.Reason.{Reason}
-use Rattle.text_io.specs.declared.reason.Reason.TheVariants.{Section, Order, UnknownOption, Repeated, Value, Limit, Jbod, Unbuilt}
+use Rattle.text_io.specs.declared.reason.Reason.TheVariants.{Section, Unbuilt}
 use Rattle.text_io.specs.Lines.{lines_of_text, words_of, is_printable}
 use Rattle.bc_history.specs.declared.section.Header.{Header}
 use Rattle.bc_history.specs.declared.section.Header.TheVariants.{Global, Clock, Port, Records, Queries, Schedule}
@@ -12,7 +12,7 @@ use Rattle.bc_history.specs.declared.section.Section.TheVariants.{Options as In_
 use Rattle.bc_history.specs.declared.option.OptionName.{OptionName}
 use Rattle.bc_history.specs.declared.scenario.Scenario.{Scenario}
 use Rattle.bc_history.specs.Drafts.{Draft, scenario_of}
-use Rattle.bc_history.specs.ScenarioText.{Tests, first_of, header_tests, option_tests, option_of, tests_of, role_of, fault, end_fault, fault_behind, fault_at, draft_of, line_count, Stands, IsFirstFault}
+use Rattle.bc_history.specs.ScenarioText.{Tests, first_of, header_tests, option_tests, option_of, tests_of, role_of, fault, fault_behind, fault_at, draft_of, line_count, Stands, IsFirstFault}
 
 -- one of the first k places is the first faulty one
 pub record IsFaultBelow (lines : List (List ℕ)) (k : ℕ) : Type 0 where

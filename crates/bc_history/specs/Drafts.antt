@@ -1,5 +1,5 @@
 -- What the lines of a scenario text say so far (own).
-use Rattle.std.specs.Prelude.{ℕ, ◌-◌, List, [], ◌∷◌, length, slice_get, slice_set, Option, Some, None}
+use Rattle.std.specs.Prelude.{◌-◌, List, [], ◌∷◌, length, slice_get, slice_set, Option, Some, None}
 use Rattle.ptp_base.specs.declared.port.PortConf.{PortConf}
 use Rattle.model_clock.specs.declared.state.ClockState.{ClockState}
 use Rattle.bc_history.specs.declared.scenario.Options.{Options}

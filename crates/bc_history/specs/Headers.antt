@@ -1,6 +1,6 @@
 -- The lines of a scenario text that begin a section (own).
-use Rattle.std.specs.Prelude.{ℕ, ◌+◌, ◌-◌, Bool, true, false, not, ◌==◌, ◌&&◌, ◌||◌, nat_eq, nat_lt, nat_le, if◌then◌else◌, List, [], ◌∷◌, length, take, codes, Option, Some, None, option_map, option_and_then}
-use Rattle.std.specs.List.{starts_with, ends_with}
+use Rattle.std.specs.Prelude.{ℕ, ◌-◌, Bool, true, false, ◌==◌, ◌&&◌, ◌||◌, nat_eq, nat_lt, if◌then◌else◌, List, [], ◌∷◌, length, take, codes, Option, Some, None, option_map, option_and_then}
+use Rattle.std.specs.List.{ends_with}
 use lib.Pointwise.{pointwise}
 use Rattle.text_io.specs.Numerals.{number_of}
 use Rattle.bc_history.specs.declared.section.Section.{Section}

@@ -1,5 +1,5 @@
 -- Texts that are judged as worked examples.
-use Rattle.std.specs.Prelude.{◌≡◌, ℕ, zero, suc, pos, negsuc, ◌+◌, List, [], ◌∷◌, ◌++◌, map, true, Option, Some, None}
+use Rattle.std.specs.Prelude.{ℕ, zero, suc, negsuc, ◌+◌, List, [], ◌∷◌, ◌++◌, true, Option}
 use Rattle.text_io.specs.declared.reason.Reason.{Reason}
 use Rattle.text_io.specs.Lines.{lines_of_text}
 use Rattle.bc_history.specs.declared.scenario.Scenario.{Scenario}

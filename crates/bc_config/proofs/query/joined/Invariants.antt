@@ -1,4 +1,4 @@
-use Rattle.std.proofs.Common.{◌≡◌, ℕ, ◌∷◌, length}
+use Rattle.std.proofs.Common.{◌≡◌, ◌∷◌, length}
 use Rattle.std.specs.List.{join_with_byte}
 use Rattle.bc_config.proofs.query.joined.Given as goal
 

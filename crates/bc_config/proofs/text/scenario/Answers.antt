@@ -1,5 +1,4 @@
-use Rattle.std.proofs.Common.{◌≡◌, sym, ◌∙◌, arith}
-use Rattle.bc_config.specs.Refusing.{IsRefusedBy}
+use Rattle.std.proofs.Common.{sym, arith}
 use Rattle.bc_config.proofs.Reading.{step, refused, end_faulty, stands, number_fits}
 use Rattle.bc_config.proofs.text.scenario.Goals as goal
 

@@ -1,4 +1,4 @@
-use Rattle.std.proofs.Common.{◌≡◌, ℕ, ◌<◌, ◌≤◌, ◌+◌, length}
+use Rattle.std.proofs.Common.{length}
 use Rattle.bc_config.proofs.Reading.{IsReadTo}
 use Rattle.bc_config.proofs.text.scenario.Given as goal
 

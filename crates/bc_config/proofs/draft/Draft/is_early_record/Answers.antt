@@ -1,6 +1,5 @@
-use Rattle.std.proofs.Common.{◌≡◌, ℕ, List, [], ◌∷◌, Bool, sym, ◌∙◌, ap}
+use Rattle.std.proofs.Common.{[], ◌∷◌, sym, ◌∙◌, ap}
 use Rattle.bc_history.specs.Lines.{is_early_record}
-use Rattle.bc_config.specs.Phrases.{IsPhrase}
 use Rattle.bc_config.proofs.draft.Draft.is_early_record.Goals as goal
 
 pub returns-in-Two : goal.returns-in-Two
