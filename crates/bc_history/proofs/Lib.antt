@@ -4,4 +4,5 @@ pub mod Faces
 pub mod Ends
 pub mod Exchanges
 pub mod Histories
+pub mod Texts
 pub mod OptionLaws

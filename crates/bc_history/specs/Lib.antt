@@ -16,3 +16,8 @@ pub mod Silent
 pub mod Examples
 pub mod Text
 pub mod OptionTable
+pub mod Headers
+pub mod Drafts
+pub mod Lines
+pub mod ScenarioText
+pub mod TextExamples

@@ -1,6 +1,6 @@
 -- The options of a scenario text: how each is written, its range and its default, and what it sets. All values are whole
 -- numbers: times in ns, drifts in ppb. The defaults are those of linuxptp where it has the option; the rest is own.
-use Rattle.std.specs.Prelude.{ℕ, ℤ, pos, negsuc, ◌-◌, ◌^◌, ◌*ℤ◌, Bool, true, false, ◌&&◌, nat_eq, int_le, nat_abs, if◌then◌else◌, List, [], ◌∷◌, codes, Option, Some, None}
+use Rattle.std.specs.Prelude.{ℕ, ℤ, pos, negsuc, ◌*ℤ◌, Bool, true, false, ◌&&◌, nat_eq, int_le, nat_abs, if◌then◌else◌, List, [], ◌∷◌, codes, Option, Some, None}
 use Rattle.std.specs.Cmp.Lexicographic.{pointwise}
 use Rattle.std.specs.List.{find, fold}
 use Rattle.std.specs.Option.{option_map, option_or}

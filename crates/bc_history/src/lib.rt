@@ -7,6 +7,8 @@ mod laws;
 mod option;
 mod option_laws;
 mod scenario;
+mod section;
+mod text_laws;
 
 pub use entry::{
     Effects, Entries, Entry, Input, Moved, Moves, Outcome, RoleOrders, Run, Seen, Sends, Sent,
@@ -27,4 +29,8 @@ pub use ptp_profile::management::{Answers, AskError};
 pub use scenario::{
     Asked, AskedList, ClockStates, Happening, Options, PortConfs, Record, RecordList, Scenario,
     Turner, Turns, TurnsList,
+};
+pub use section::{Header, Role, Section};
+pub use text_laws::{
+    a_text_stands_or_is_faulty, one_fault_is_first, one_scenario_stands, texts_are_judged,
 };

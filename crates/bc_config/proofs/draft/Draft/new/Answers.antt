@@ -1,0 +1,10 @@
+use Rattle.std.proofs.Common.{ap, length, arith}
+use Rattle.std.proofs.lemmas.List.{get_or-replicate}
+use Rattle.bc_config.proofs.draft.Draft.new.Goals as goal
+
+pub invariant_of-result : goal.invariant_of-result
+invariant_of-result c = record {
+  former_ticks = λ k below. rw c.new-records.ensures (get_or-replicate 32 k 0 0 below);
+  few_clocks = omega (arith, ap length c.new-clocks.ensures);
+  few_ports = omega (arith, ap length c.new-ports.ensures);
+}
