@@ -13,6 +13,3 @@ pub use asking::{ask, spell};
 pub use printing::print;
 pub use ptp_profile::management::{Answers, AskError, Request};
 pub use showing::shows;
-
-#[cfg(test)]
-mod tests;

@@ -101,12 +101,7 @@ fn append_tlv(tlv: &Tlv, out: &mut Octets) -> Result<(), NoMemory>
 
 /// Appends the one spelling of the management message in a domain (IEEE 1588-2019, 13.3 and
 /// 15.4.1), with no boundary hops, or nothing where memory runs out.
-pub fn write(
-    alloc: Global,
-    m: &Managed,
-    domain: u8,
-    out: &mut Octets,
-) -> Result<(), NoMemory>
+pub fn write(alloc: Global, m: &Managed, domain: u8, out: &mut Octets) -> Result<(), NoMemory>
     // A management TLV has at most 65,481 octets.
     requires { IsShort m.now.tlv }
     ensures ok { OnOk result (out.new ≡ out.old ++ managed_octets domain m.now) }
