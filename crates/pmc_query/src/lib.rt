@@ -13,3 +13,6 @@ pub use asking::{ask, spell};
 pub use printing::print;
 pub use ptp_profile::management::{Answers, AskError, Request};
 pub use showing::shows;
+
+#[cfg(test)]
+mod tests;
