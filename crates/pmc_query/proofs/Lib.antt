@@ -1,3 +1,3 @@
 pub mod Splitting
-pub mod Answering
-pub mod Printing
+pub mod Answers
+pub mod Lines

@@ -1,13 +1,18 @@
 -- The first word of a text, and its number.
-use Rattle.std.proofs.Common.{◌≡◌, ℕ, suc, ◌+◌, ◌-◌, ◌*◌, ◌^◌, ◌<◌, ◌≤◌, List, [], ◌∷◌, length, take, drop, get_or, refl, sym, ap, ◌∙◌, arith, Bool, true, false, cond, lit<}
+use Rattle.std.proofs.Common.{◌≡◌, ℕ, zero, suc, ◌+◌, ◌-◌, ◌*◌, ◌^◌, ◌<◌, ◌≤◌, List, [], ◌∷◌, length, take, drop, get_or, refl, sym, ap, ◌∙◌, arith, Bool, true, false, cond, lit<, add-one, drop-cons}
 use Rattle.std.proofs.lemmas.Bool.Decides.{nat_tests}
 use Rattle.std.proofs.lemmas.List.Splits.{slice_split_first}
 use Rattle.std.proofs.lemmas.List.Sums.{fold_more}
 use Rattle.std.proofs.Math.Nat.{pow-suc, pow-le-pow_right}
-use Rattle.std.specs.List.{position, position_or_len, slice_split, onto_first, fold, list_all}
-use Rattle.std.specs.Prelude.{Option, Some, None, not, nat_lt, ◌==◌}
+use Rattle.std.specs.List.{position, position_or_len, slice_split, onto_first, list_all}
+use Rattle.std.specs.Prelude.{Option, Some, None, IsTrue, not, nat_lt, ◌==◌, ◌&&◌}
 use Rattle.std.specs.Char.{is_ascii_digit}
-use Rattle.ptp_profile.specs.Queries.{words_of, number_of_digits}
+use Rattle.ptp_profile.specs.Queries.{action_asked, action_named, asked_by, id_named, name_asked, named_asked, number_of_digits, target_asked, words_asked, words_of}
+use Rattle.ptp_profile.specs.declared.management.Action.{Action}
+use Rattle.ptp_profile.specs.declared.management.AskError.{AskError}
+use Rattle.ptp_profile.specs.declared.management.ManagementId.{ManagementId}
+use Rattle.ptp_profile.specs.declared.management.Request.{Request}
+use Rattle.std.specs.Prelude.{Result}
 
 abbrev space : ℕ → Bool
 space c = c == 32
@@ -46,7 +51,73 @@ word_before text i e =
 
 -- twenty digits are below 10 ^ 20
 pub grows : (n i d : ℕ) → n < 10 ^ i → d < 10 → 10 * n + d < 10 ^ (i + 1)
-grows n i d h k = let power : 10 ^ (i + 1) ≡ 10 ^ i * 10 = pow-suc 10 i in omega arith
+grows n i d h k = let power : 10 ^ (i + 1) ≡ 10 ^ i * 10 = rw add-one (pow-suc 10 i) in omega arith
 
 pub small : (n i : ℕ) → n < 10 ^ i → i ≤ 20 → n < 10 ^ 20
 small n i h k = let most : 10 ^ i ≤ 10 ^ 20 = pow-le-pow_right (lit< tt) k in omega (arith, most)
+
+-- ---- digits
+
+pub digits_more : (word : List ℕ) (i d : ℕ) (whole : Bool) → i < length word → list_all is_ascii_digit (drop i word) ≡ whole
+    → is_ascii_digit (get_or word i d) ≡ true → list_all is_ascii_digit (drop (i + 1) word) ≡ whole
+digits_more word i d whole lt so e =
+    let split : drop i word ≡ get_or word i d ∷ drop (i + 1) word = rw add-one (drop-cons word i d lt) in
+    ap (λ (b : Bool). b && list_all is_ascii_digit (drop (i + 1) word)) (sym e) ∙ sym (ap (list_all is_ascii_digit) split) ∙ so
+
+pub digits_stop : (word : List ℕ) (i d : ℕ) (whole : Bool) → i < length word → list_all is_ascii_digit (drop i word) ≡ whole
+    → is_ascii_digit (get_or word i d) ≡ false → false ≡ whole
+digits_stop word i d whole lt so e =
+    let split : drop i word ≡ get_or word i d ∷ drop (i + 1) word = rw add-one (drop-cons word i d lt) in
+    ap (λ (b : Bool). b && list_all is_ascii_digit (drop (i + 1) word)) (sym e) ∙ sym (ap (list_all is_ascii_digit) split) ∙ so
+
+-- each of digits is one
+pub digit_at : (word : List ℕ) (i d : ℕ) → IsTrue (list_all is_ascii_digit word) → i < length word → IsTrue (is_ascii_digit (get_or word i d))
+digit_at [] i d h lt = absurd (omega arith)
+digit_at (c ∷ cs) zero d h lt = first (is_ascii_digit c) (list_all is_ascii_digit cs) h
+  where
+    first : (a b : Bool) → (a && b) ≡ true → a ≡ true
+    first true b e = refl
+    first false b e = cc
+digit_at (c ∷ cs) (suc i) d h lt = let less : i < length cs = omega arith in digit_at cs i d (second (is_ascii_digit c) (list_all is_ascii_digit cs) h) less
+  where
+    second : (a b : Bool) → (a && b) ≡ true → b ≡ true
+    second true b e = e
+    second false b e = cc
+
+digit_value : (d : ℕ) → IsTrue (is_ascii_digit d) → d - 48 < 10
+digit_value d h = grind (arith, nat_tests)
+
+-- one digit further
+pub number_more : (word : List ℕ) (i d n new : ℕ) → IsTrue (list_all is_ascii_digit word) → i < length word → n ≡ number_of_digits (take i word)
+    → n < 10 ^ i → new ≡ 10 * n + (get_or word i d - 48) → (new ≡ number_of_digits (take (i + 1) word)) × (new < 10 ^ (i + 1))
+number_more word i d n new h lt so small_n is =
+    let value = digit_value (get_or word i d) (digit_at word i d h lt) in
+    let more : number_of_digits (take (i + 1) word) ≡ 10 * number_of_digits (take i word) + (get_or word i d - 48) =
+    fold_more (λ n c. 10 * n + (c - 48)) 0 word i d lt in
+    let below : 10 * n + (get_or word i d - 48) < 10 ^ (i + 1) = grows n i (get_or word i d - 48) small_n value in
+    (is ∙ ap (λ (m : ℕ). 10 * m + (get_or word i d - 48)) so ∙ sym more, omega (arith, below, is))
+
+-- ---- the words of a text
+
+no_target : (word : List ℕ) (c : ℕ) (t : Bool) (parts : List (List ℕ)) → target_asked (word ∷ cond t ([] ∷ parts) (onto_first c parts)) ≡ None
+no_target word c true parts = refl
+no_target word c false [] = refl
+no_target word c false (part ∷ parts) = refl
+
+-- a word more than there may be
+pub one_too_many : (word text : List ℕ) → None ≡ target_asked (word ∷ words_of text)
+one_too_many word [] = refl
+one_too_many word (c ∷ cs) = sym (no_target word c (space c) (slice_split space cs))
+
+pub target_from : (text word : List ℕ) (behind : List (List ℕ)) (r : Option ℕ) → words_of text ≡ word ∷ behind → r ≡ target_asked (word ∷ behind)
+    → r ≡ target_asked (words_of text)
+target_from text word behind r split is = is ∙ sym (ap target_asked split)
+
+pub name_from : (text word : List ℕ) (behind : List (List ℕ)) (a : Action) (id : Option ManagementId) (r : Result Request AskError)
+    → words_of text ≡ word ∷ behind → id ≡ id_named word → r ≡ named_asked a behind id → r ≡ name_asked a (words_of text)
+name_from text word behind a id r split named is = is ∙ ap (named_asked a behind) named ∙ sym (ap (name_asked a) split)
+
+pub asked_from : (text word : List ℕ) (behind : List (List ℕ)) (a : Option Action) (r : Result Request AskError) → words_of text ≡ word ∷ behind
+    → a ≡ action_named word → r ≡ action_asked a behind → r ≡ asked_by text
+unfolding asked_by
+asked_from text word behind a r split named is = is ∙ ap (λ (x : Option Action). action_asked x behind) named ∙ sym (ap words_asked split)

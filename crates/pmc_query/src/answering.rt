@@ -1,12 +1,12 @@
 //! What the data sets answer to a request.
 
-ghost use Rattle.std.specs.Prelude.{◌≡◌, ◌≤◌, ◌++◌, ◌∷◌, [], ℕ, length, map, IfOk, OnOk, OnErr, IsTrue};
+ghost use Rattle.std.specs.Prelude.{◌≡◌, ◌≤◌, ◌++◌, ◌∷◌, [], ◌==◌, ◌||◌, ℕ, length, map, IfOk, OnOk, OnErr, IsTrue, false};
 ghost use Rattle.std.specs.List.{list_all};
 ghost use Rattle.ptp_profile.specs.declared.management.Tlv.TheVariants.{Management, Error};
 ghost use Rattle.ptp_profile.specs.Fields.{fields_octets, id_fields, id_number, id_numbered};
 ghost use Rattle.ptp_profile.specs.Management.{managed_octets, IsShort};
-ghost use Rattle.ptp_profile.specs.Queries.{answer_to, answers_octets, answers_to, can_be_set, can_show, clock_values, error_action, error_to, has_state, id_answers, is_for, is_of_ports, is_request, known_answers, port_values, ports_asked, response_to, responses, shows, tlv_answers};
-ghost use Rattle.pmc_query.specs.Sets.{answering, answering_port};
+ghost use Rattle.ptp_profile.specs.Queries.{all_ports, answer_to, answers_octets, answers_to, can_be_set, can_show, clock_values, error_action, error_to, has_state, id_answers, is_for, is_of_ports, is_request, known_answers, port_values, ports_asked, response_to, responses, shows, tlv_answers};
+ghost use Rattle.pmc_query.specs.Sets.{answering, answering_port, ports_answers};
 
 use crate::asking::{ALL_CLOCKS, ALL_PORTS};
 use crate::values::{clock_values, fields_octets, port_values};
@@ -191,16 +191,40 @@ fn port_response(
     )
 }
 
+// Whether a request asks a port.
+fn asks(r: &Managed, port: &PortSet) -> bool
+    ensures { result ≡ ((r.now.target.port == all_ports) || (r.now.target.port == port.now.id.port)) }
+{
+    r.target.port == ALL_PORTS || r.target.port == port.id.port
+}
+
+// Adds the response of a port, where it is asked.
+fn add_response(
+    alloc: Global,
+    d: &DataSets,
+    r: &Managed,
+    port: &PortSet,
+    made: &mut Answers,
+) -> Result<(), NoMemory>
+    requires { IsTrue (list_all shows made.old) }
+    ensures made { OnOk result (made.new ≡ made.old ++ ports_answers (answering d.now) r.now (port.now ∷ [])) }
+    ensures shown { OnOk result (IsTrue (list_all shows made.new)) }
+{
+    if !asks(r, port) {
+        return Ok(());
+    }
+    made.push(port_response(alloc, d, r, port)?)
+}
+
 // The responses of the ports that are asked, rising.
 fn port_responses(alloc: Global, d: &DataSets, r: &Managed) -> Result<Answers, NoMemory>
-    ensures made { IfOk result (λ made. made ≡ map (managed_octets d.now.domain) (responses (answering d.now) r.now ManagementId.PortDataSet)) }
+    ensures made { IfOk result (λ made. made ≡ ports_answers (answering d.now) r.now d.now.ports) }
     ensures shown { IfOk result (λ made. IsTrue (list_all shows made)) }
 {
     let mut made = Answers::new(alloc);
-    for port in d.ports.items() {
-        if r.target.port == ALL_PORTS || r.target.port == port.id.port {
-            made.push(port_response(alloc, d, r, port)?)?;
-        }
+    let ports = d.ports.items();
+    for port in ports {
+        add_response(alloc, d, r, port, &mut made)?;
     }
     Ok(made)
 }

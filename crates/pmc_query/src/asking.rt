@@ -1,14 +1,14 @@
 //! What a text asks, and the request that it makes.
 
-ghost use Rattle.std.specs.Prelude.{◌≡◌, ◌≤◌, ◌++◌, ◌∷◌, [], length, map, OnOk, OnErr, IsTrue};
+ghost use Rattle.std.specs.Prelude.{◌≡◌, ◌≤◌, ◌<◌, ◌+◌, ◌-◌, ◌*◌, ◌^◌, ◌==◌, ◌++◌, ◌∷◌, length, IfSome, OnOk, OnErr, IsTrue};
 ghost use Rattle.std.specs.Option.{option_copied};
 ghost use Rattle.std.specs.Char.{is_ascii_digit};
-ghost use Rattle.std.specs.List.{list_all};
-ghost use Rattle.ptp_profile.specs.Queries.{action_named, asked_by, is_number, number_of_digits, request_octets, request_of, target_asked, target_named, words_of};
+ghost use Rattle.std.specs.List.{list_all, position};
+ghost use Rattle.ptp_profile.specs.Queries.{action_asked, action_named, aimed, asked_by, asked_of, name_asked, named_asked, is_number, number_of_digits, request_octets, request_of, target_asked, target_named, words_of};
 ghost use Rattle.pmc_query.specs.Words.{words_behind};
 
 use ptp_base::{ClockId, NoMemory, Octets, PortId};
-use ptp_profile::management::{Action, AskError, Managed, Request, Tlv};
+use ptp_profile::management::{Action, AskError, Managed, ManagementId, Request, Tlv};
 use ptp_tlv::{named, number_of, write};
 use std::alloc::Global;
 
@@ -18,11 +18,19 @@ pub const ALL_PORTS: u16 = 65535;
 // The clock that stands for all clocks (15.4.1.3).
 pub const ALL_CLOCKS: ClockId = ClockId { id: u64::MAX };
 
+// Where the first space stands.
+fn space_in(text: &[u8]) -> Option<usize>
+    ensures place { result ≡ position (λ c. c == 32) text.now }
+    ensures within { IfSome result (λ at. at < length text.now) }
+{
+    text.iter().position(|c| *c == b' ')
+}
+
 // The first word of a text, and what stands behind its space, where there is one.
 fn first_word(text: &[u8]) -> (&[u8], Option<&[u8]>)
     ensures { words_of text.now ≡ result.0.now ∷ words_behind (option_copied result.1) }
 {
-    match text.iter().position(|c| *c == b' ') {
+    match space_in(text) {
         None => (text, None),
         Some(at) => (&text[..at], Some(&text[at + 1..])),
     }
@@ -43,11 +51,38 @@ fn action_named(word: &[u8]) -> Option<Action>
     }
 }
 
+// Whether all are digits.
+fn all_digits(word: &[u8]) -> bool
+    ensures { result ≡ list_all is_ascii_digit word.now }
+{
+    for c in word {
+        if !is_digit(*c) {
+            return false;
+        }
+    }
+    true
+}
+
+fn is_digit(c: u8) -> bool
+    ensures { result ≡ is_ascii_digit c }
+{
+    c.is_ascii_digit()
+}
+
 // Whether a word is one to twenty digits.
 fn is_number(word: &[u8]) -> bool
     ensures { result ≡ is_number word.now }
 {
-    !word.is_empty() && word.len() <= 20 && word.iter().all(|c| c.is_ascii_digit())
+    word.len() >= 1 && word.len() <= 20 && all_digits(word)
+}
+
+// One digit more.
+fn with_digit(number: u128, digit: u8) -> u128
+    requires small { number < 10 ^ 20 }
+    requires digit { IsTrue (is_ascii_digit digit) }
+    ensures { result ≡ 10 * number + (digit - 48) }
+{
+    10 * number + (digit - b'0') as u128
 }
 
 // The number of its digits, which is below 10^20.
@@ -58,7 +93,7 @@ fn number_of_digits(word: &[u8]) -> u128
 {
     let mut number: u128 = 0;
     for digit in word {
-        number = 10 * number + (*digit - b'0') as u128;
+        number = with_digit(number, *digit);
     }
     number
 }
@@ -67,7 +102,7 @@ fn number_of_digits(word: &[u8]) -> u128
 fn target_named(word: &[u8]) -> Option<u16>
     ensures { result ≡ target_named word.now }
 {
-    if word == b"*" {
+    if word == b"*".as_slice() {
         return Some(ALL_PORTS);
     }
     if !is_number(word) {
@@ -81,16 +116,83 @@ fn target_named(word: &[u8]) -> Option<u16>
     }
 }
 
+// The port that a word asks, where no other follows.
+fn last_target(word: &[u8], rest: Option<&[u8]>) -> Option<u16>
+    ensures { result ≡ target_asked (word.now ∷ words_behind (option_copied rest.entry)) }
+{
+    match rest {
+        None => target_named(word),
+        Some(_) => None,
+    }
+}
+
 // The port that the words behind the name ask: all, where there are none.
 fn target_asked(rest: Option<&[u8]>) -> Option<u16>
-    ensures { result ≡ target_asked (words_behind (option_copied rest)) }
+    ensures { result ≡ target_asked (words_behind (option_copied rest.entry)) }
 {
     let Some(rest) = rest else {
         return Some(ALL_PORTS);
     };
-    match first_word(rest) {
-        (word, None) => target_named(word),
-        (_, Some(_)) => None,
+    let (word, more) = first_word(rest);
+    last_target(word, more)
+}
+
+// A request for an id, where there is a target.
+fn aimed(action: Action, id: ManagementId, target: Option<u16>) -> Result<Request, AskError>
+    ensures { result ≡ aimed action id target }
+{
+    match target {
+        None => Err(AskError::Target),
+        Some(target) => Ok(Request {
+            action,
+            id: number_of(id),
+            target,
+        }),
+    }
+}
+
+// `GET` looks at the target, the others ask all ports.
+fn asked_of(action: Action, id: ManagementId, rest: Option<&[u8]>) -> Result<Request, AskError>
+    ensures { result ≡ asked_of action (words_behind (option_copied rest.entry)) id }
+{
+    match action {
+        Action::Get => aimed(action, id, target_asked(rest)),
+        Action::Set | Action::Response | Action::Command | Action::Acknowledge => {
+            aimed(action, id, Some(ALL_PORTS))
+        }
+    }
+}
+
+fn named_asked(
+    action: Action,
+    id: Option<ManagementId>,
+    rest: Option<&[u8]>,
+) -> Result<Request, AskError>
+    ensures { result ≡ named_asked action (words_behind (option_copied rest.entry)) id }
+{
+    match id {
+        None => Err(AskError::Unknown),
+        Some(id) => asked_of(action, id, rest),
+    }
+}
+
+// What the words behind the action ask.
+fn name_asked(action: Action, rest: Option<&[u8]>) -> Result<Request, AskError>
+    ensures { result ≡ name_asked action (words_behind (option_copied rest.entry)) }
+{
+    let Some(rest) = rest else {
+        return Err(AskError::Unknown);
+    };
+    let (name, rest) = first_word(rest);
+    named_asked(action, named(name), rest)
+}
+
+fn action_asked(action: Option<Action>, rest: Option<&[u8]>) -> Result<Request, AskError>
+    ensures { result ≡ action_asked action (words_behind (option_copied rest.entry)) }
+{
+    match action {
+        None => Err(AskError::Action),
+        Some(action) => name_asked(action, rest),
     }
 }
 
@@ -105,28 +207,7 @@ pub fn ask(text: &[u8]) -> Result<Request, AskError>
     ensures { result ≡ asked_by text.now }
 {
     let (word, rest) = first_word(text);
-    let Some(action) = action_named(word) else {
-        return Err(AskError::Action);
-    };
-    let Some(rest) = rest else {
-        return Err(AskError::Unknown);
-    };
-    let (name, rest) = first_word(rest);
-    let Some(id) = named(name) else {
-        return Err(AskError::Unknown);
-    };
-    let target = match action {
-        Action::Get => target_asked(rest),
-        _ => Some(ALL_PORTS),
-    };
-    let Some(target) = target else {
-        return Err(AskError::Target);
-    };
-    Ok(Request {
-        action,
-        id: number_of(id),
-        target,
-    })
+    action_asked(action_named(word), rest)
 }
 
 /// Appends the octets of a request, of a sequence and in a domain (IEEE 1588-2019, 15.4.1): from

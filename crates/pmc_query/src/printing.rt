@@ -1,15 +1,15 @@
 //! The printed lines of an answer.
 
-ghost use Rattle.std.specs.Prelude.{◌≡◌, ◌≤◌, ◌++◌, length, OnOk, OnErr, IsTrue};
+ghost use Rattle.std.specs.Prelude.{◌≡◌, ◌≤◌, ◌++◌, ◌∷◌, [], length, drop, IfOk, OnOk, OnErr, IsTrue};
 ghost use Rattle.ptp_profile.specs.Fields.{fields_lines, fits_form, id_numbered, shape_lines, shape_of, width_of};
 ghost use Rattle.ptp_profile.specs.declared.management.Tlv.TheVariants.{Management, Error};
-ghost use Rattle.ptp_profile.specs.Queries.{action_text, can_show, is_known, lines_text, name_text, origin_text, printed_lines, shows, tlv_lines};
+ghost use Rattle.ptp_profile.specs.Queries.{action_text, can_show, is_known, lines_text, name_text, origin_text, printed_lines, shows, title_line, tlv_lines, values_lines};
 ghost use Rattle.ptp_tlv.specs.Lending.{managed_of, tlv_of};
 
 use crate::forms::{add_decimal, add_hex, add_port, add_value};
 use crate::showing::lend_itself;
 use ptp_base::{NoMemory, Octets, two};
-use ptp_profile::management::{Action, Field, Form};
+use ptp_profile::management::{Action, Field, Form, ManagementId};
 use ptp_tlv::{Lent, LentTlv, fields_of, name_of, numbered, shape_of};
 use std::alloc::Global;
 
@@ -64,32 +64,40 @@ fn add_field(alloc: Global, field: Field, octets: &[u8], out: &mut Octets) -> Re
     out.append(b"\n")
 }
 
+// What stands behind a field.
+fn behind(octets: &[u8], width: usize) -> &[u8]
+    requires { width ≤ length octets.now }
+    ensures { result.now ≡ drop width octets.now }
+{
+    &octets[width..]
+}
+
 // Appends the lines of fields, from their octets.
-fn add_fields(alloc: Global, fields: &[Field], octets: &[u8], out: &mut Octets) -> Result<(), NoMemory>
+fn add_fields(
+    alloc: Global,
+    fields: &[Field],
+    octets: &[u8],
+    out: &mut Octets,
+) -> Result<(), NoMemory>
     requires { length octets.now ≡ width_of fields.now }
     ensures { OnOk result (out.new ≡ out.old ++ lines_text (fields_lines fields.now octets.now)) }
 {
     let mut rest = octets;
     for field in fields {
         add_field(alloc, *field, rest, out)?;
-        rest = &rest[shape_of(*field).width..];
+        rest = behind(rest, shape_of(*field).width);
     }
     Ok(())
 }
 
-// Appends the lines of values of an id.
-fn add_values(alloc: Global, m: &Lent, id: u16, octets: &[u8], out: &mut Octets) -> Result<(), NoMemory>
-    requires { IsTrue (is_known (id_numbered id) octets.now) }
-    ensures { OnOk result (out.new ≡ out.old ++ lines_text (tlv_lines (managed_of m.now) (Management id octets.now))) }
+// Appends the line of a response.
+fn add_title(alloc: Global, m: &Lent, id: u16, out: &mut Octets) -> Result<(), NoMemory>
+    ensures { OnOk result (out.new ≡ out.old ++ lines_text (title_line (managed_of m.now) id ∷ [])) }
 {
     add_origin(alloc, m, out)?;
     out.append(b" MANAGEMENT ")?;
     add_name(alloc, id, out)?;
-    out.append(b"\n")?;
-    match numbered(id) {
-        Some(known) => add_fields(alloc, fields_of(known), octets, out),
-        None => Ok(()),
-    }
+    out.append(b"\n")
 }
 
 // Appends the line of an error.
@@ -104,14 +112,59 @@ fn add_error(alloc: Global, m: &Lent, error: u16, id: u16, out: &mut Octets) -> 
     out.append(b"\n")
 }
 
-// Appends the lines of a message.
-fn add_message(alloc: Global, m: &Lent, out: &mut Octets) -> Result<(), NoMemory>
-    requires { IsTrue (can_show m.now.action (tlv_of m.now.tlv)) }
-    ensures { OnOk result (out.new ≡ out.old ++ lines_text (tlv_lines (managed_of m.now) (tlv_of m.now.tlv))) }
+// Appends the lines of the values of a known message.
+fn add_known(
+    alloc: Global,
+    known: Option<ManagementId>,
+    octets: &[u8],
+    out: &mut Octets,
+) -> Result<(), NoMemory>
+    requires { IsTrue (is_known known octets.now) }
+    ensures { OnOk result (out.new ≡ out.old ++ lines_text (values_lines known octets.now)) }
 {
+    match known {
+        None => Ok(()),
+        Some(id) => add_fields(alloc, fields_of(id), octets, out),
+    }
+}
+
+// Appends the lines of a response.
+fn add_values(
+    alloc: Global,
+    m: &Lent,
+    id: u16,
+    octets: &[u8],
+    out: &mut Octets,
+) -> Result<(), NoMemory>
+    requires { IsTrue (is_known (id_numbered id) octets.now) }
+    ensures { OnOk result (out.new ≡ out.old ++ lines_text (tlv_lines (managed_of m.now) (Management id octets.now))) }
+{
+    add_title(alloc, m, id, out)?;
+    add_known(alloc, numbered(id), octets, out)
+}
+
+// The lines of a message.
+fn message_text(alloc: Global, m: &Lent) -> Result<Octets, NoMemory>
+    requires { IsTrue (can_show m.now.action (tlv_of m.now.tlv)) }
+    ensures { IfOk result (λ text. text ≡ lines_text (tlv_lines (managed_of m.now) (tlv_of m.now.tlv))) }
+{
+    let mut text = Octets::new(alloc);
     match m.tlv {
-        LentTlv::Management { id, octets } => add_values(alloc, m, id, octets, out),
-        LentTlv::Error { error, id } => add_error(alloc, m, error, id, out),
+        LentTlv::Management { id, octets } => add_values(alloc, m, id, octets, &mut text)?,
+        LentTlv::Error { error, id } => add_error(alloc, m, error, id, &mut text)?,
+    }
+    Ok(text)
+}
+
+// The lines of octets.
+#[tactic(auto, unfolding(ptp_profile::specs::Queries::shows, ptp_profile::specs::Queries::printed_lines))]
+fn text_of(alloc: Global, octets: &[u8]) -> Result<Octets, NoMemory>
+    requires { IsTrue (shows octets.now) }
+    ensures { IfOk result (λ text. text ≡ lines_text (printed_lines octets.now)) }
+{
+    match lend_itself(octets) {
+        None => Ok(Octets::new(alloc)),
+        Some(m) => message_text(alloc, &m),
     }
 }
 
@@ -123,10 +176,6 @@ pub fn print(alloc: Global, octets: &[u8], out: &mut Octets) -> Result<(), NoMem
     ensures ok { OnOk result (out.new ≡ out.old ++ lines_text (printed_lines octets.now)) }
     ensures err { OnErr result (out.new ≡ out.old) }
 {
-    let mut text = Octets::new(alloc);
-    match lend_itself(octets) {
-        Some(m) => add_message(alloc, &m, &mut text)?,
-        None => {}
-    }
+    let text = text_of(alloc, octets)?;
     out.append(text.items())
 }

@@ -1,6 +1,7 @@
 //! The values of management messages, and their octets.
 
-ghost use Rattle.std.specs.Prelude.{◌≡◌, ◌≤◌, length, IfOk};
+ghost use Rattle.std.specs.Prelude.{◌≡◌, ◌≤◌, ◌++◌, length, IfOk, OnOk};
+ghost use Rattle.byteorder.specs.Endian.{big_bytes};
 ghost use Rattle.ptp_profile.specs.Fields.{fields_octets, state_number};
 ghost use Rattle.ptp_profile.specs.Queries.{clock_values, port_value, port_values};
 ghost use Rattle.pmc_query.specs.Sets.{answering, answering_port};
@@ -50,7 +51,7 @@ fn default_values(alloc: Global, d: &DataSets) -> Result<Vec<u128>, NoMemory>
         quality.priority2 as u128,
         d.own.sender.clock.id as u128,
         d.domain as u128,
-        0
+        0,
     ]?)
 }
 
@@ -60,7 +61,7 @@ fn current_values(alloc: Global, d: &DataSets) -> Result<Vec<u128>, NoMemory>
     Ok(vec![in alloc;
         d.steps as u128,
         d.offset.cast_unsigned() as u128,
-        d.delay.cast_unsigned() as u128
+        d.delay.cast_unsigned() as u128,
     ]?)
 }
 
@@ -79,7 +80,7 @@ fn parent_values(alloc: Global, d: &DataSets) -> Result<Vec<u128>, NoMemory>
         quality.accuracy as u128,
         quality.variance as u128,
         quality.priority2 as u128,
-        d.grandmaster.id as u128
+        d.grandmaster.id as u128,
     ]?)
 }
 
@@ -89,7 +90,7 @@ fn time_values(alloc: Global, d: &DataSets) -> Result<Vec<u128>, NoMemory>
     Ok(vec![in alloc;
         d.time.utc_offset.cast_unsigned() as u128,
         d.time.flags as u128,
-        d.time.source as u128
+        d.time.source as u128,
     ]?)
 }
 
@@ -123,8 +124,17 @@ pub fn port_values(alloc: Global, port: &PortSet) -> Result<Vec<u128>, NoMemory>
         port.log_sync.cast_unsigned() as u128,
         1,
         0,
-        2
+        2,
     ]?)
+}
+
+// Appends the lowest octets of a number, the high one first.
+fn add_number(value: u128, width: usize, out: &mut Octets) -> Result<(), NoMemory>
+    requires { width ≤ 16 }
+    ensures { OnOk result (out.new ≡ out.old ++ big_bytes width value) }
+{
+    let octets = value.to_be_bytes();
+    out.append(&octets[16 - width..])
 }
 
 /// Values in the octets of fields, the high octet of each first.
@@ -134,8 +144,7 @@ pub fn fields_octets(alloc: Global, fields: &[Field], values: &[u128]) -> Result
 {
     let mut out = Octets::new(alloc);
     for (i, field) in fields.iter().enumerate() {
-        let octets = values[i].to_be_bytes();
-        out.append(&octets[16 - shape_of(*field).width..])?;
+        add_number(values[i], shape_of(*field).width, &mut out)?;
     }
     Ok(out)
 }

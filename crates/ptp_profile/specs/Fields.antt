@@ -128,7 +128,7 @@ fields_octets (field ∷ fields) [] = []
 fields_octets (field ∷ fields) (value ∷ values) = big_bytes (shape_of field).width value ++ fields_octets fields values
 
 -- the message of a number, if there is one
-abbrev pub id_numbered : ℕ → Option ManagementId
+unfoldable pub id_numbered : ℕ → Option ManagementId
 id_numbered n = find (λ id. id_number id == n) MANAGEMENT_IDS
 
 -- ---- how a field's octets are printed (own)

@@ -46,7 +46,7 @@ action_named word =
     else None
 
 -- the management message of a name, in any case of letters
-abbrev pub id_named : List ℕ → Option ManagementId
+unfoldable pub id_named : List ℕ → Option ManagementId
 id_named word = find (λ id. str_eq_ignore_ascii_case word (id_name id)) MANAGEMENT_IDS
 
 -- a number from its digits
@@ -315,7 +315,7 @@ unfoldable pub shows : List ℕ → Bool
 shows b = message_shows (managed_read (slice_index b 4) b)
 
 -- the name of an id, or its four hex digits
-abbrev pub name_text : ℕ → Option ManagementId → List ℕ
+unfoldable pub name_text : ℕ → Option ManagementId → List ℕ
 name_text n None = codes "0x" <> encode_lower (big_bytes 2 n)
 name_text n (Some id) = id_name id
 
@@ -332,12 +332,15 @@ values_lines None octets = []
 values_lines (Some id) octets = fields_lines (id_fields id) octets
 
 -- who says it, and of which request
-abbrev pub origin_text : Managed → List ℕ
+unfoldable pub origin_text : Managed → List ℕ
 origin_text m = port_text m.sender <> codes " seq " <> decimal m.seq <> codes " " <> action_text m.action
 
+-- the first line of a response
+abbrev pub title_line : Managed → ℕ → List ℕ
+title_line m n = origin_text m <> codes " MANAGEMENT " <> name_text n (id_numbered n)
+
 abbrev pub tlv_lines : Managed → Tlv → List (List ℕ)
-tlv_lines m (Management n octets) =
-    (origin_text m <> codes " MANAGEMENT " <> name_text n (id_numbered n)) ∷ values_lines (id_numbered n) octets
+tlv_lines m (Management n octets) = title_line m n ∷ values_lines (id_numbered n) octets
 tlv_lines m (Error error n) = (origin_text m <> codes " ERROR " <> decimal error <> codes " " <> name_text n (id_numbered n)) ∷ []
 
 abbrev pub message_lines : Option Managed → List (List ℕ)

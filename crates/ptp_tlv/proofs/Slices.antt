@@ -2,7 +2,6 @@
 use Rattle.std.proofs.Common.{◌≡◌, ℕ, ◌+◌, ◌-◌, ◌≤◌, List, take, drop, sym, ap, ◌∙◌, arith, cond}
 use Rattle.std.proofs.lemmas.List.{drop-take}
 use Rattle.std.specs.Prelude.{◌==◌}
-use Rattle.ptp_profile.specs.declared.management.Tlv.{Tlv}
 use Rattle.ptp_profile.specs.declared.management.Tlv.TheVariants.{Management, Error}
 use Rattle.ptp_profile.specs.Wire.{number_at}
 use Rattle.ptp_profile.specs.Management.{tlv_at}

@@ -14,3 +14,6 @@ pub use reading::read;
 pub use table::{Shape, fields_of, name_of, named, number_of, numbered, shape_of, width_of};
 pub use view::{Lent, LentTlv, lend};
 pub use writing::write;
+
+#[cfg(test)]
+mod tests;

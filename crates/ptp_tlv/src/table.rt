@@ -196,6 +196,7 @@ pub fn width_of(id: ManagementId) -> usize
 }
 
 /// The message of a number, if this clock knows one.
+#[tactic(auto, unfolding(ptp_profile::specs::Fields::id_numbered))]
 pub fn numbered(number: u16) -> Option<ManagementId>
     ensures { result ≡ id_numbered number }
 {
@@ -213,6 +214,7 @@ fn same_word(a: &[u8], b: &[u8]) -> bool
 }
 
 /// The message of a name, in any case of letters, if there is one.
+#[tactic(auto, unfolding(ptp_profile::specs::Queries::id_named))]
 pub fn named(word: &[u8]) -> Option<ManagementId>
     ensures { result ≡ id_named word.now }
 {

@@ -1,4 +1,4 @@
-use Rattle.std.proofs.Common.{arith, sym, ◌∙◌}
+use Rattle.std.proofs.Common.{arith}
 use Rattle.ptp_tlv.proofs.Slices.{management_lent}
 use Rattle.ptp_tlv.proofs.view.tlv_at.Goals as goal
 

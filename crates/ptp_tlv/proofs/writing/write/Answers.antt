@@ -1,4 +1,4 @@
-use Rattle.std.proofs.Common.{◌≡◌, ℕ, List, [], ◌++◌, append_assoc, ap, ◌∙◌, sym, refl, rules}
+use Rattle.std.proofs.Common.{◌≡◌, ℕ, List, ◌++◌, append_assoc, rules}
 use Rattle.ptp_base.specs.Header.{header_octets}
 use Rattle.ptp_profile.specs.Management.{managed_head, managed_octets, purpose_octets, tlv_octets}
 use Rattle.ptp_tlv.proofs.writing.write.Goals as goal

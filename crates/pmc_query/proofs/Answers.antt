@@ -1,12 +1,13 @@
 -- Answers can be printed, and those of ports come one by one.
-use Rattle.std.proofs.Common.{◌≡◌, ℕ, suc, ◌+◌, ◌<◌, ◌≤◌, List, [], ◌∷◌, ◌++◌, length, take, drop, get_or, map, refl, sym, ap, subst, ◌∙◌, arith, append-nil, append_assoc, Bool, true, false, cond, lit≤, add-one, drop-cons}
+use Rattle.std.proofs.Common.{◌≡◌, ℕ, zero, suc, ◌+◌, ◌-◌, ◌%◌, ◌<◌, ◌≤◌, List, [], ◌∷◌, ◌++◌, length, take, drop, get_or, refl, sym, ap, subst, ◌∙◌, arith, append-nil, append_assoc, Bool, true, false, lit≤, add-one, drop-cons}
 use Rattle.std.proofs.lemmas.Bool.Decides.{nat_tests}
-use Rattle.std.proofs.lemmas.List.{length-append}
+use Rattle.std.proofs.lemmas.List.{length-append, take_rest}
 use Rattle.std.proofs.lemmas.List.Folds.{list_all-append}
 use Rattle.std.specs.List.{list_all}
-use Rattle.std.specs.Prelude.{IsTrue, slice_index, Option, Some, None, nat_le, filter, ◌==◌, ◌&&◌, ◌||◌}
+use Rattle.std.specs.Prelude.{IsTrue, slice_index, Option, Some, nat_le, ◌==◌, ◌&&◌, ◌||◌}
 use Rattle.byteorder.specs.Endian.{big_bytes}
 use Rattle.byteorder.specs.Numbers.{length-bytes_high_first}
+use Rattle.std.specs.Int.{bytes_high_first}
 use Rattle.ptp_base.specs.declared.port.PortState.{PortState}
 use Rattle.ptp_base.specs.declared.port.PortState.TheVariants.{Initializing, Faulty, Disabled, Listening, PreMaster, Master, Passive, Uncalibrated, Slave}
 use Rattle.data_sets.specs.declared.port_set.PortSet.{PortSet}
@@ -18,8 +19,8 @@ use Rattle.ptp_profile.specs.declared.management.ManagementId.{ManagementId}
 use Rattle.ptp_profile.specs.declared.management.ManagementId.TheVariants.{NullManagement, DefaultDataSet, CurrentDataSet, ParentDataSet, TimePropertiesDataSet, PortDataSet, Priority1, Priority2, Domain}
 use Rattle.ptp_profile.specs.Management.{managed_octets, managed_read}
 use Rattle.ptp_profile.specs.Fields.{fields_octets, id_fields, id_number, id_numbered, shape_of, state_number, width_of}
-use Rattle.ptp_profile.specs.Queries.{AnsweringPort, AnsweringSets, all_ports, can_show, clock_values, has_state, is_known, is_of_ports, message_shows, port_value, port_values, response_to, shows}
-use Rattle.pmc_query.specs.Sets.{answering_port}
+use Rattle.ptp_profile.specs.Queries.{AnsweringPort, AnsweringSets, all_ports, can_show, clock_values, has_state, is_known, is_of_ports, message_shows, port_values, response_to, shows}
+use Rattle.pmc_query.specs.Sets.{answering_port, ports_answers}
 
 -- ---- how many octets and values there are
 
@@ -64,7 +65,7 @@ clock_state Priority1 octets e = refl
 clock_state Priority2 octets e = refl
 clock_state Domain octets e = refl
 
-state_of : (s : PortState) → (nat_le 1 (state_number s / 1 % 256) && nat_le (state_number s / 1 % 256) 9) ≡ true
+state_of : (s : PortState) → (nat_le 1 (state_number s % 256) && nat_le (state_number s % 256) 9) ≡ true
 state_of Initializing = refl
 state_of Faulty = refl
 state_of Disabled = refl
@@ -81,6 +82,7 @@ port_state p = state_of p.state
 -- ---- what an answer shows
 
 numbered_back : (id : ManagementId) → id_numbered (id_number id) ≡ Some id
+unfolding id_numbered
 numbered_back NullManagement = refl
 numbered_back DefaultDataSet = refl
 numbered_back CurrentDataSet = refl
@@ -128,35 +130,53 @@ all_pushed made x h k = list_all-append shows made (x ∷ []) ∙ two (list_all 
 
 -- ---- the answers of ports
 
--- of these ports
-abbrev pub ports_answers : AnsweringSets → Managed → List PortSet → List (List ℕ)
-ports_answers d r ports =
-    map (managed_octets d.domain)
-    (map (λ p. response_to d r p.id.port PortDataSet (port_values p)) (filter (λ p. (r.target.port == all_ports) || (r.target.port == p.id.port)) (map answering_port ports)))
+first_port : (d : AnsweringSets) (r : Managed) (p : PortSet) (ports : List PortSet) (t : Bool) → ((r.target.port == all_ports) || (r.target.port == p.id.port)) ≡ t
+    → ports_answers d r (p ∷ ports) ≡ ports_answers d r (p ∷ []) ++ ports_answers d r ports
+first_port d r p ports true e = rw e refl
+first_port d r p ports false e = rw e refl
 
-abbrev pub port_answer : AnsweringSets → Managed → PortSet → List ℕ
-port_answer d r p = managed_octets d.domain (response_to d r p.id.port PortDataSet (port_values (answering_port p)))
-
-
-next_port : (d : AnsweringSets) (r : Managed) (p : PortSet) (ports : List PortSet) (t : Bool) → ((r.target.port == all_ports) || (r.target.port == p.id.port)) ≡ t
-    → ports_answers d r (p ∷ ports) ≡ cond t (port_answer d r p ∷ ports_answers d r ports) (ports_answers d r ports)
-next_port d r p ports true e = rw e refl
-next_port d r p ports false e = rw e refl
-
-pub port_answers : (d : AnsweringSets) (r : Managed) (ports : List PortSet) (i : ℕ) (p : PortSet) (made new whole : List (List ℕ)) → i < length ports
-    → made ++ ports_answers d r (drop i ports) ≡ whole → ((r.target.port == all_ports) || (r.target.port == (get_or ports i p).id.port)) ≡ true
-    → new ≡ made ++ port_answer d r (get_or ports i p) ∷ [] → new ++ ports_answers d r (drop (i + 1) ports) ≡ whole
-port_answers d r ports i p made new whole lt so asked is =
-    let split : drop i ports ≡ get_or ports i p ∷ drop (i + 1) ports = rw add-one (drop-cons ports i p lt) in
-    let next = next_port d r (get_or ports i p) (drop (i + 1) ports) true asked in
+-- one port further
+pub port_answered : (d : AnsweringSets) (r : Managed) (ports : List PortSet) (i : ℕ) (p : PortSet) (made new whole : List (List ℕ)) → i < length ports
+    → made ++ ports_answers d r (drop i ports) ≡ whole → new ≡ made ++ ports_answers d r (get_or ports i p ∷ []) → new ++ ports_answers d r (drop (i + 1) ports) ≡ whole
+port_answered d r ports i p made new whole lt so is =
+    let q : PortSet = get_or ports i p in
+    let split : drop i ports ≡ q ∷ drop (i + 1) ports = rw add-one (drop-cons ports i p lt) in
+    let parts : ports_answers d r (drop i ports) ≡ ports_answers d r (q ∷ []) ++ ports_answers d r (drop (i + 1) ports) =
+    ap (ports_answers d r) split ∙ first_port d r q (drop (i + 1) ports) ((r.target.port == all_ports) || (r.target.port == q.id.port)) refl in
     ap (λ (l : List (List ℕ)). l ++ ports_answers d r (drop (i + 1) ports)) is
-    ∙ append_assoc made (port_answer d r (get_or ports i p) ∷ []) (ports_answers d r (drop (i + 1) ports))
-    ∙ ap (λ (l : List (List ℕ)). made ++ l) (sym next ∙ ap (ports_answers d r) (sym split)) ∙ so
+    ∙ append_assoc made (ports_answers d r (q ∷ [])) (ports_answers d r (drop (i + 1) ports))
+    ∙ ap (λ (l : List (List ℕ)). made ++ l) (sym parts) ∙ so
 
-pub port_passed : (d : AnsweringSets) (r : Managed) (ports : List PortSet) (i : ℕ) (p : PortSet) (made whole : List (List ℕ)) → i < length ports
-    → made ++ ports_answers d r (drop i ports) ≡ whole → ((r.target.port == all_ports) || (r.target.port == (get_or ports i p).id.port)) ≡ false
-    → made ++ ports_answers d r (drop (i + 1) ports) ≡ whole
-port_passed d r ports i p made whole lt so asked =
-    let split : drop i ports ≡ get_or ports i p ∷ drop (i + 1) ports = rw add-one (drop-cons ports i p lt) in
-    let next = next_port d r (get_or ports i p) (drop (i + 1) ports) false asked in
-    ap (λ (l : List (List ℕ)). made ++ l) (sym next ∙ ap (ports_answers d r) (sym split)) ∙ so
+pub port_asked : (d : AnsweringSets) (r : Managed) (p : PortSet) → ((r.target.port == all_ports) || (r.target.port == p.id.port)) ≡ true
+    → ports_answers d r (p ∷ []) ≡ managed_octets d.domain (response_to d r p.id.port PortDataSet (port_values (answering_port p))) ∷ []
+port_asked d r p e = rw e refl
+
+pub port_passed : (d : AnsweringSets) (r : Managed) (p : PortSet) → ((r.target.port == all_ports) || (r.target.port == p.id.port)) ≡ false
+    → ports_answers d r (p ∷ []) ≡ []
+port_passed d r p e = rw e refl
+
+-- ---- values in octets
+
+low_bytes : (k n w x : ℕ) → n ≡ k + w → drop k (bytes_high_first n x) ≡ bytes_high_first w x
+low_bytes zero n w x e = let same : n ≡ w = omega arith in ap (λ (m : ℕ). bytes_high_first m x) same
+low_bytes (suc k) zero w x e = absurd (omega arith)
+low_bytes (suc k) (suc n) w x e = let less : n ≡ k + w = omega arith in low_bytes k n w x less
+
+-- the last octets of sixteen
+pub last_bytes : (w x : ℕ) → w ≤ 16 → take (16 - (16 - w)) (drop (16 - w) (bytes_high_first 16 x)) ≡ big_bytes w x
+last_bytes w x h =
+    let whole : 16 ≡ (16 - w) + w = omega arith in
+    take_rest (bytes_high_first 16 x) (16 - w) ∙ low_bytes (16 - w) 16 w x whole
+
+-- one value further
+pub value_written : (fields : List Field) (values : List ℕ) (i : ℕ) (f : Field) (out new whole : List ℕ) → i < length fields → length values ≡ length fields
+    → out ++ fields_octets (drop i fields) (drop i values) ≡ whole → new ≡ out ++ big_bytes (shape_of (get_or fields i f)).width (get_or values i 0)
+    → new ++ fields_octets (drop (i + 1) fields) (drop (i + 1) values) ≡ whole
+value_written fields values i f out new whole lt same so is =
+    let within : i < length values = omega arith in
+    let split : drop i fields ≡ get_or fields i f ∷ drop (i + 1) fields = rw add-one (drop-cons fields i f lt) in
+    let split_values : drop i values ≡ get_or values i 0 ∷ drop (i + 1) values = rw add-one (drop-cons values i 0 within) in
+    let octets : List ℕ = big_bytes (shape_of (get_or fields i f)).width (get_or values i 0) in
+    let after : List ℕ = fields_octets (drop (i + 1) fields) (drop (i + 1) values) in
+    let parts : fields_octets (drop i fields) (drop i values) ≡ octets ++ after = λ j. fields_octets (split j) (split_values j) in
+    ap (λ (l : List ℕ). l ++ after) is ∙ append_assoc out octets after ∙ ap (λ (l : List ℕ). out ++ l) (sym parts) ∙ so

@@ -1,8 +1,6 @@
 -- Lines, one after another.
-use Rattle.std.proofs.Common.{◌≡◌, ℕ, suc, ◌+◌, ◌<◌, ◌≤◌, List, [], ◌∷◌, ◌++◌, length, take, drop, get_or, refl, sym, ap, ◌∙◌, arith, append_assoc, append-nil, add-one, drop-cons, codes}
-use Rattle.std.proofs.lemmas.List.{length-drop}
+use Rattle.std.proofs.Common.{◌≡◌, ℕ, ◌+◌, ◌<◌, List, [], ◌∷◌, ◌++◌, length, drop, get_or, refl, sym, ap, ◌∙◌, append_assoc, add-one, drop-cons, codes}
 use Rattle.ptp_profile.specs.declared.management.Field.{Field}
-use Rattle.ptp_profile.specs.Naming.{◌<>◌}
 use Rattle.ptp_profile.specs.Fields.{fields_lines, shape_lines, shape_of, width_of}
 use Rattle.ptp_profile.specs.Queries.{lines_text}
 
@@ -30,3 +28,19 @@ pub field_fits : (fields : List Field) (i : ℕ) (f : Field) (rest : List ℕ) �
 field_fits fields i f rest lt long =
     let split : drop i fields ≡ get_or fields i f ∷ drop (i + 1) fields = rw add-one (drop-cons fields i f lt) in
     sym (long ∙ ap width_of split)
+
+-- ---- pieces of a line
+
+pub three_pieces : (o a b d x1 x2 x3 : List ℕ) → x1 ≡ o ++ a → x2 ≡ x1 ++ b → x3 ≡ x2 ++ d → x3 ++ codes "\n" ≡ o ++ lines_text ((a ++ (b ++ d)) ∷ [])
+three_pieces o a b d x1 x2 x3 p q r = rw (r, q, p) (simp append_assoc)
+
+pub five_pieces : (o a b d e f x1 x2 x3 x4 x5 : List ℕ) → x1 ≡ o ++ a → x2 ≡ x1 ++ b → x3 ≡ x2 ++ d → x4 ≡ x3 ++ e → x5 ≡ x4 ++ f
+    → x5 ++ codes "\n" ≡ o ++ lines_text ((a ++ (b ++ (d ++ (e ++ f)))) ∷ [])
+five_pieces o a b d e f x1 x2 x3 x4 x5 p q r s t = rw (t, s, r, q, p) (simp append_assoc)
+
+pub more_lines : (o line x : List ℕ) (lines : List (List ℕ)) → x ≡ o ++ lines_text (line ∷ []) → x ++ lines_text lines ≡ o ++ lines_text (line ∷ lines)
+more_lines o line x lines is = rw is (append_assoc o (lines_text (line ∷ [])) (lines_text lines) ∙ ap (λ (l : List ℕ). o ++ l) (sym (lines_text-append (line ∷ []) lines)))
+
+pub five_more : (o a b d e f x1 x2 x3 x4 : List ℕ) → x1 ≡ o ++ a → x2 ≡ x1 ++ b → x3 ≡ x2 ++ d → x4 ≡ x3 ++ e
+    → x4 ++ f ≡ o ++ (a ++ (b ++ (d ++ (e ++ f))))
+five_more o a b d e f x1 x2 x3 x4 p q r s = rw (s, r, q, p) (simp append_assoc)

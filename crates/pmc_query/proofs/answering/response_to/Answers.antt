@@ -1,0 +1,33 @@
+use Rattle.std.proofs.Common.{◌≡◌, List, sym, ap, subst, ◌∙◌}
+use Rattle.std.specs.Prelude.{IsTrue}
+use Rattle.ptp_profile.specs.declared.management.Action.{Action}
+use Rattle.ptp_profile.specs.declared.management.Action.TheVariants.{Response}
+use Rattle.ptp_profile.specs.declared.management.Managed.{Managed}
+use Rattle.ptp_profile.specs.declared.management.Field.{Field}
+use Rattle.ptp_profile.specs.declared.management.Tlv.{Tlv}
+use Rattle.ptp_profile.specs.declared.management.Tlv.TheVariants.{Management}
+use Rattle.ptp_profile.specs.Fields.{fields_octets, id_fields, id_number}
+use Rattle.ptp_profile.specs.Management.{IsShort}
+use Rattle.ptp_profile.specs.Queries.{can_show}
+use Rattle.pmc_query.proofs.Answers.{response_short, response_shows}
+use Rattle.pmc_query.proofs.answering.response_to.Goals as goal
+
+pub written-requires-clause-short : goal.written-requires-clause-short
+written-requires-clause-short c =
+    let octets : c.in_ok-fields_octets.field-0 ≡ fields_octets (id_fields c.args.id) c.args.values.now =
+    c.in_ok-fields_octets.ensures ∙ ap (λ (f : List Field). fields_octets f c.args.values.now) c.fields_of.ensures in
+    let tlv : c.answer_to-m.result.tlv ≡ Management (id_number c.args.id) (fields_octets (id_fields c.args.id) c.args.values.now) =
+    ap (λ (m : Managed). m.tlv) c.answer_to-m.ensures ∙ (λ i. Management (c.number_of.ensures i) (octets i)) in
+    let P : Tlv → Type 0 = λ t. IsShort t in
+    subst P (sym tlv) (response_short c.args.id c.args.values.now c.requires.each)
+
+pub written-requires-clause-shown : goal.written-requires-clause-shown
+written-requires-clause-shown c =
+    let octets : c.in_ok-fields_octets.field-0 ≡ fields_octets (id_fields c.args.id) c.args.values.now =
+    c.in_ok-fields_octets.ensures ∙ ap (λ (f : List Field). fields_octets f c.args.values.now) c.fields_of.ensures in
+    let tlv : c.answer_to-m.result.tlv ≡ Management (id_number c.args.id) (fields_octets (id_fields c.args.id) c.args.values.now) =
+    ap (λ (m : Managed). m.tlv) c.answer_to-m.ensures ∙ (λ i. Management (c.number_of.ensures i) (octets i)) in
+    let action : c.answer_to-m.result.action ≡ Response = ap (λ (m : Managed). m.action) c.answer_to-m.ensures in
+    let Q : Tlv → Type 0 = λ t. IsTrue (can_show c.answer_to-m.result.action t) in
+    let R : Action → Type 0 = λ a. IsTrue (can_show a (Management (id_number c.args.id) (fields_octets (id_fields c.args.id) c.args.values.now))) in
+    subst Q (sym tlv) (subst R (sym action) (response_shows c.args.id c.args.values.now c.requires.each c.requires.state))
