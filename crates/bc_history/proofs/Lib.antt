@@ -6,3 +6,7 @@ pub mod Exchanges
 pub mod Histories
 pub mod Texts
 pub mod OptionLaws
+pub mod RuleOptions
+pub mod RuleLists
+pub mod RuleLines
+pub mod Rules

@@ -21,3 +21,4 @@ pub mod Drafts
 pub mod Lines
 pub mod ScenarioText
 pub mod TextExamples
+pub mod ScenarioRules

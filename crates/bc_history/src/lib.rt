@@ -6,6 +6,7 @@ mod examples;
 mod laws;
 mod option;
 mod option_laws;
+mod rule_laws;
 mod scenario;
 mod section;
 mod text_laws;
@@ -26,6 +27,7 @@ pub use option::{Form, OptionName, Scope};
 pub use option_laws::{defaults_are_of_the_table, options_are_named};
 pub use ptp_profile::Logs;
 pub use ptp_profile::management::{Answers, AskError};
+pub use rule_laws::scenarios_keep_the_rules;
 pub use scenario::{
     Asked, AskedList, ClockStates, Happening, Options, PortConfs, Record, RecordList, Scenario,
     Turner, Turns, TurnsList,

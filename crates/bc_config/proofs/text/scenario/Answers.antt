@@ -1,4 +1,5 @@
 use Rattle.std.proofs.Common.{sym, arith}
+use Rattle.bc_history.proofs.Rules.{scenario_keeps}
 use Rattle.bc_config.proofs.Reading.{step, refused, end_faulty, stands, number_fits}
 use Rattle.bc_config.proofs.text.scenario.Goals as goal
 
@@ -24,3 +25,6 @@ returns-in-Err-clause-refused c =
 pub returns-in-Ok-clause-stands : goal.returns-in-Ok-clause-stands
 returns-in-Ok-clause-stands c =
     stands c.args.text.now c.loop-line.lines c.loop-line.number c.loop-line.draft c.in-Ok.scenario c.loop-line.invariant c.in_default.ensures.steps.0 (sym c.in_default-end_fault.ensures) c.in-Ok.ensures
+
+pub returns-in-Ok-clause-kept : goal.returns-in-Ok-clause-kept
+returns-in-Ok-clause-kept c = scenario_keeps c.args.text.now c.in-Ok.scenario (returns-in-Ok-clause-stands c)
