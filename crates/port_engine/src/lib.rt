@@ -15,3 +15,6 @@ mod offset;
 pub use engine::PortEngine;
 pub use frames::Frames;
 pub use ptp_profile::{Fate, Measure};
+
+#[cfg(test)]
+mod tests;
