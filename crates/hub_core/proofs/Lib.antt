@@ -1,0 +1,7 @@
+pub mod Items
+pub mod Frames
+pub mod Takings
+pub mod Standings
+pub mod Ownings
+pub mod Codes
+pub mod Decisions

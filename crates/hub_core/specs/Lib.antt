@@ -1,0 +1,5 @@
+pub mod Engine
+pub mod Standing
+pub mod Taking
+pub mod Owning
+pub mod Deciding
