@@ -44,33 +44,34 @@ use Rattle.bc_history.proofs.States.{state-after_event, keeps_to_itself, IsOwnEv
 
 -- ---- what an input leaves of a port
 
--- two ports have one identity and one state
-record Alike (p q : Port) : Type 0 where
-  id : p.id ≡ q.id
-  state : p.state ≡ q.state
+-- two ports have one identity, one configuration and one state
+pub record Alike (p q : Port) : Type 0 where
+  pub id : p.id ≡ q.id
+  pub conf : p.conf ≡ q.conf
+  pub state : p.state ≡ q.state
 
 alike : (p : Port) → Alike p p
-alike p = record { id = refl; state = refl }
+alike p = record { id = refl; conf = refl; state = refl }
 
-fired_alike : (tick : ℕ) (seen : ℤ) (timer : Timer) (p : Port) → Alike (fired tick seen timer p) p
-fired_alike tick seen AnnounceReceipt p = record { id = refl; state = refl }
-fired_alike tick seen Qualification p = record { id = refl; state = refl }
-fired_alike tick seen AnnounceSend p = record { id = refl; state = refl }
-fired_alike tick seen SyncSend p = record { id = refl; state = refl }
-fired_alike tick seen DelayRequest p = record { id = refl; state = refl }
+pub fired_alike : (tick : ℕ) (seen : ℤ) (timer : Timer) (p : Port) → Alike (fired tick seen timer p) p
+fired_alike tick seen AnnounceReceipt p = record { id = refl; conf = refl; state = refl }
+fired_alike tick seen Qualification p = record { id = refl; conf = refl; state = refl }
+fired_alike tick seen AnnounceSend p = record { id = refl; conf = refl; state = refl }
+fired_alike tick seen SyncSend p = record { id = refl; conf = refl; state = refl }
+fired_alike tick seen DelayRequest p = record { id = refl; conf = refl; state = refl }
 
 if_fired : (b : Bool) (tick : ℕ) (seen : ℤ) (timer : Timer) (p : Port) → Alike (cond b (fired tick seen timer p) p) p
 if_fired true tick seen timer p = fired_alike tick seen timer p
 if_fired false tick seen timer p = alike p
 
 response_alike : (message : Message) (body : Body) (p : Port) → Alike (with_response message body p) p
-response_alike message (DelayResp receive requesting) p = record { id = refl; state = refl }
+response_alike message (DelayResp receive requesting) p = record { id = refl; conf = refl; state = refl }
 response_alike message (Sync origin) p = alike p
 response_alike message (DelayReq origin) p = alike p
 response_alike message (FollowUp precise) p = alike p
 response_alike message (Announce origin said) p = alike p
 
-timing_alike : (message : Message) (seen : ℤ) (fate : Fate) (p : Port) → Alike (after_timing message seen fate p) p
+pub timing_alike : (message : Message) (seen : ℤ) (fate : Fate) (p : Port) → Alike (after_timing message seen fate p) p
 timing_alike message seen Asleep p = alike p
 timing_alike message seen (Dropped reject) p = alike p
 timing_alike message seen Own p = alike p
@@ -79,8 +80,8 @@ timing_alike message seen Alternate p = alike p
 timing_alike message seen Crowded p = alike p
 timing_alike message seen Kept p = alike p
 timing_alike message seen Ignored p = alike p
-timing_alike message seen Waiting p = record { id = refl; state = refl }
-timing_alike message seen Paired p = record { id = refl; state = refl }
+timing_alike message seen Waiting p = record { id = refl; conf = refl; state = refl }
+timing_alike message seen Paired p = record { id = refl; conf = refl; state = refl }
 timing_alike message seen Matched p = response_alike message message.body p
 timing_alike message seen Unmatched p = alike p
 timing_alike message seen Answered p = alike p
@@ -112,7 +113,7 @@ frame_alike m parent (Err reject) seen h = alike h.port
 frame_alike m parent (Ok message) seen h = message_alike m message seen (frame_fate m parent (Ok message) seen h) h
 
 jumped_alike : (action : Action) (outcome : Outcome) (p : Port) → Alike (jumped action outcome p) p
-jumped_alike (Jump step freq) (Changed number) p = record { id = refl; state = refl }
+jumped_alike (Jump step freq) (Changed number) p = record { id = refl; conf = refl; state = refl }
 jumped_alike (Jump step freq) Unlocked p = alike p
 jumped_alike (Jump step freq) (Superseded newer at) p = alike p
 jumped_alike (Jump step freq) (Spent at) p = alike p
@@ -147,37 +148,41 @@ reset_alike (Some MasterClockSelected) h = alike h.port
 reset_alike (Some SynchronizationFault) h = alike h.port
 reset_alike (Some (Decided code)) h = alike h.port
 
--- ---- a port keeps its identity
+-- ---- a port keeps its identity and its configuration
 
-id-uncalibrated : (m : ℕ) (cause : PortEvent) (p : Port) → (uncalibrated m cause p).id ≡ p.id
-id-uncalibrated m FaultDetected p = refl
-id-uncalibrated m FaultCleared p = refl
-id-uncalibrated m AnnounceTimeout p = refl
-id-uncalibrated m QualificationTimeout p = refl
-id-uncalibrated m MasterClockSelected p = refl
-id-uncalibrated m SynchronizationFault p = refl
-id-uncalibrated m (Decided code) p = refl
+-- what no entry changes of a port
+abbrev pub face : Port → PortId × PortConf
+face p = (p.id, p.conf)
 
-id-entered : (m steps : ℕ) (cause : PortEvent) (s : PortState) (p : Port) → (entered m steps cause s p).id ≡ p.id
-id-entered m steps cause Initializing p = refl
-id-entered m steps cause Faulty p = refl
-id-entered m steps cause Disabled p = refl
-id-entered m steps cause Listening p = refl
-id-entered m steps cause PreMaster p = refl
-id-entered m steps cause Master p = refl
-id-entered m steps cause Passive p = refl
-id-entered m steps cause Uncalibrated p = id-uncalibrated m cause p
-id-entered m steps cause Slave p = refl
+face-uncalibrated : (m : ℕ) (cause : PortEvent) (p : Port) → face (uncalibrated m cause p) ≡ face p
+face-uncalibrated m FaultDetected p = refl
+face-uncalibrated m FaultCleared p = refl
+face-uncalibrated m AnnounceTimeout p = refl
+face-uncalibrated m QualificationTimeout p = refl
+face-uncalibrated m MasterClockSelected p = refl
+face-uncalibrated m SynchronizationFault p = refl
+face-uncalibrated m (Decided code) p = refl
 
-id_by_tests : (m steps : ℕ) (cause : PortEvent) (s : PortState) (p : Port) (b c : Bool)
-    → (cond b (renewed m (record (cleared p) { state = Uncalibrated })) (cond c p (entered m steps cause s p))).id ≡ p.id
-id_by_tests m steps cause s p true c = refl
-id_by_tests m steps cause s p false true = refl
-id_by_tests m steps cause s p false false = id-entered m steps cause s p
+face-entered : (m steps : ℕ) (cause : PortEvent) (s : PortState) (p : Port) → face (entered m steps cause s p) ≡ face p
+face-entered m steps cause Initializing p = refl
+face-entered m steps cause Faulty p = refl
+face-entered m steps cause Disabled p = refl
+face-entered m steps cause Listening p = refl
+face-entered m steps cause PreMaster p = refl
+face-entered m steps cause Master p = refl
+face-entered m steps cause Passive p = refl
+face-entered m steps cause Uncalibrated p = face-uncalibrated m cause p
+face-entered m steps cause Slave p = refl
 
-id-after_event : (m steps : ℕ) (cause : PortEvent) (is_new : Bool) (p : Port) → (after_event m steps cause is_new p).id ≡ p.id
-id-after_event m steps cause is_new p =
-    id_by_tests m steps cause (next p.state cause is_new) p (gets_parent cause is_new p.state) (eqb (state_number (next p.state cause is_new)) (state_number p.state))
+face_by_tests : (m steps : ℕ) (cause : PortEvent) (s : PortState) (p : Port) (b c : Bool)
+    → face (cond b (renewed m (record (cleared p) { state = Uncalibrated })) (cond c p (entered m steps cause s p))) ≡ face p
+face_by_tests m steps cause s p true c = refl
+face_by_tests m steps cause s p false true = refl
+face_by_tests m steps cause s p false false = face-entered m steps cause s p
+
+pub face-after_event : (m steps : ℕ) (cause : PortEvent) (is_new : Bool) (p : Port) → face (after_event m steps cause is_new p) ≡ face p
+face-after_event m steps cause is_new p =
+    face_by_tests m steps cause (next p.state cause is_new) p (gets_parent cause is_new p.state) (eqb (state_number (next p.state cause is_new)) (state_number p.state))
 
 -- ---- an own event is no decision
 
@@ -239,10 +244,10 @@ followers-count [] = refl
 followers-count (h ∷ hs) =
     sum_by-cons (λ (s : PortState). cond (is_following s) 1 0) h.port.state (states_of hs) ∙ ap (λ n. cond (is_following h.port.state) 1 0 + n) (followers-count hs)
 
--- a change of a port lets it follow only where it followed, and leaves its identity
-record Keeps (change : HubPort → HubPort) : Type 0 where
+-- a change of a port lets it follow only where it followed, and leaves its identity and its configuration
+pub record Keeps (change : HubPort → HubPort) : Type 0 where
   keeps : (h : HubPort) → follows (change h) ≡ true → follows h ≡ true
-  id : (h : HubPort) → (change h).port.id ≡ h.port.id
+  pub fixed : (h : HubPort) → face (change h).port ≡ face h.port
 
 one-le : (a b : Bool) → (a ≡ true → b ≡ true) → one a ≤ one b
 unfolding one
@@ -269,7 +274,7 @@ Numbered p (h ∷ hs) = (h.port.id.port ≡ p) × Numbered (p + 1) hs
 Numbered-changed_at : (change : HubPort → HubPort) → Keeps change → (i p : ℕ) (hs : List HubPort) → Numbered p hs → Numbered p (changed_at change i hs)
 unfolding Numbered
 Numbered-changed_at change k i p [] n = tt
-Numbered-changed_at change k zero p (h ∷ hs) n = (ap (λ (id : PortId). id.port) (k.id h) ∙ n.0, n.1)
+Numbered-changed_at change k zero p (h ∷ hs) n = (ap (λ (f : PortId × PortConf). f.0.port) (k.fixed h) ∙ n.0, n.1)
 Numbered-changed_at change k (suc i) p (h ∷ hs) n = (n.0, Numbered-changed_at change k i (p + 1) hs n.1)
 
 Numbered-at_port : (change : HubPort → HubPort) → Keeps change → (q : Option ℕ) (hs : List HubPort) → Numbered 1 hs → Numbered 1 (at_port change q hs)
@@ -277,11 +282,11 @@ Numbered-at_port change k None hs n = n
 Numbered-at_port change k (Some zero) hs n = n
 Numbered-at_port change k (Some (suc i)) hs n = Numbered-changed_at change k i 1 hs n
 
--- a change that keeps the identity of each port
-Numbered-map : (change : HubPort → HubPort) → ((h : HubPort) → (change h).port.id ≡ h.port.id) → (p : ℕ) (hs : List HubPort) → Numbered p hs → Numbered p (map change hs)
+-- a change that keeps the face of each port
+Numbered-map : (change : HubPort → HubPort) → ((h : HubPort) → face (change h).port ≡ face h.port) → (p : ℕ) (hs : List HubPort) → Numbered p hs → Numbered p (map change hs)
 unfolding Numbered
-Numbered-map change id p [] n = tt
-Numbered-map change id p (h ∷ hs) n = (ap (λ (i : PortId). i.port) (id h) ∙ n.0, Numbered-map change id (p + 1) hs n.1)
+Numbered-map change same p [] n = tt
+Numbered-map change same p (h ∷ hs) n = (ap (λ (f : PortId × PortConf). f.0.port) (same h) ∙ n.0, Numbered-map change same (p + 1) hs n.1)
 
 Numbered-open : (o : Options) (p : ℕ) (confs : List PortConf) → Numbered p (open_ports o p confs)
 unfolding Numbered
@@ -325,7 +330,7 @@ before_alike : (o : Options) (m : ℕ) (parent : PortId) (stamp : Stamp) (seen :
 before_alike o m parent stamp seen input h event =
     let after = reset_alike event (took o m parent stamp seen input h) in
     let first = took_alike o m parent stamp seen input h in
-    record { id = after.id ∙ first.id; state = after.state ∙ first.state }
+    record { id = after.id ∙ first.id; conf = after.conf ∙ first.conf; state = after.state ∙ first.state }
 
 -- a port that acts on an own event
 keeps_acting : (m steps : ℕ) (h g : HubPort) (event : Option PortEvent) → Alike g.port h.port → IsOwn event → is_following (acted m steps event g).port.state ≡ true → is_following h.port.state ≡ true
@@ -333,31 +338,34 @@ keeps_acting m steps h g None same own f = ap is_following (sym same.state) ∙ 
 keeps_acting m steps h g (Some cause) same own f =
     ap is_following (sym same.state) ∙ keeps_to_itself g.port.state cause false own (ap is_following (sym (state-after_event m steps cause false g.port)) ∙ f)
 
-id-acting : (m steps : ℕ) (h g : HubPort) (event : Option PortEvent) → Alike g.port h.port → (acted m steps event g).port.id ≡ h.port.id
-id-acting m steps h g None same = same.id
-id-acting m steps h g (Some cause) same = id-after_event m steps cause false g.port ∙ same.id
+face-alike : (p q : Port) → Alike p q → face p ≡ face q
+face-alike p q same = rw (same.id, same.conf) refl
 
-Keeps-own_step : (o : Options) (m : ℕ) (parent : PortId) (steps : ℕ) (stamps : HubPort → Stamp) (seen : Option Seen) (input : Input)
+face-acting : (m steps : ℕ) (h g : HubPort) (event : Option PortEvent) → Alike g.port h.port → face (acted m steps event g).port ≡ face h.port
+face-acting m steps h g None same = face-alike g.port h.port same
+face-acting m steps h g (Some cause) same = face-after_event m steps cause false g.port ∙ face-alike g.port h.port same
+
+pub Keeps-own_step : (o : Options) (m : ℕ) (parent : PortId) (steps : ℕ) (stamps : HubPort → Stamp) (seen : Option Seen) (input : Input)
     → Keeps (λ h. own_step o m parent steps (stamps h) seen input h)
 unfolding follows
 Keeps-own_step o m parent steps stamps seen input = record {
   keeps = λ h f.
       let event = own_event (stamps h) input h in
       keeps_acting m steps h (before_event o m parent (stamps h) seen input h event) event (before_alike o m parent (stamps h) seen input h event) (own_own (stamps h) input h) f;
-  id = λ h.
+  fixed = λ h.
       let event = own_event (stamps h) input h in
-      id-acting m steps h (before_event o m parent (stamps h) seen input h event) event (before_alike o m parent (stamps h) seen input h event);
+      face-acting m steps h (before_event o m parent (stamps h) seen input h event) event (before_alike o m parent (stamps h) seen input h event);
 }
 
 if_renewed : (b : Bool) (m : ℕ) (h : HubPort) → Alike (cond b (record h { port = renewed m h.port }) h).port h.port
-if_renewed true m h = record { id = refl; state = refl }
+if_renewed true m h = record { id = refl; conf = refl; state = refl }
 if_renewed false m h = alike h.port
 
-Keeps-renewed_by : (m : ℕ) → Keeps (renewed_by m)
+pub Keeps-renewed_by : (m : ℕ) → Keeps (renewed_by m)
 unfolding follows
 Keeps-renewed_by m = record {
   keeps = λ h f. ap is_following (sym (if_renewed (is_dependent h.port.state && is_sent_by (best_of m h) (newest_sender h.kept)) m h).state) ∙ f;
-  id = λ h. (if_renewed (is_dependent h.port.state && is_sent_by (best_of m h) (newest_sender h.kept)) m h).id;
+  fixed = λ h. face-alike _ _ (if_renewed (is_dependent h.port.state && is_sent_by (best_of m h) (newest_sender h.kept)) m h);
 }
 
 -- the ports are numbered from 1, and at most one follows
@@ -407,7 +415,7 @@ unfolding decided
 IsOrderly-decided own best c h =
     let steps = (master_among own c.moment best c.master c.ports).steps in
     record {
-      numbered = Numbered-map (decided_port own c.moment best c.master.parent steps) (λ g. id-after_event c.moment steps (Decided (code_with own c.moment best g)) (is_new_parent best c.master.parent) g.port) 1 c.ports h.numbered;
+      numbered = Numbered-map (decided_port own c.moment best c.master.parent steps) (λ g. face-after_event c.moment steps (Decided (code_with own c.moment best g)) (is_new_parent best c.master.parent) g.port) 1 c.ports h.numbered;
       few = Few-decided own c.moment best c.master.parent steps c.ports h.numbered;
     }
 

@@ -1,6 +1,7 @@
 pub mod State
 pub mod Inputs
 pub mod Opening
+pub mod Ports
 pub mod Own
 pub mod Deciding
 pub mod Generations
@@ -14,3 +15,4 @@ pub mod World
 pub mod Silent
 pub mod Examples
 pub mod Text
+pub mod OptionTable

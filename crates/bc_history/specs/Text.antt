@@ -1,12 +1,9 @@
--- The text of a run. The lines that print a management answer come with the management messages.
-use Rattle.std.specs.Prelude.{ℕ, pos, ◌+◌, List, [], ◌∷◌, ◌++◌, length, take, drop, codes, Option, Some, None}
+-- The text of a run. The lines that print an answer are not part of it yet: they come with the queries.
+use Rattle.std.specs.Prelude.{ℕ, pos, ◌+◌, List, [], ◌∷◌, length, codes, Option, Some, None}
 use Rattle.std.specs.Fmt.{decimal, signed_decimal}
-use Rattle.byteorder.specs.Endian.{big_bytes}
 use Rattle.hex.specs.Hex.{encode_lower}
 use Rattle.ptp_base.specs.Floor.{floor_of}
 use Rattle.ptp_base.specs.declared.identity.PortId.{PortId}
-use Rattle.ptp_base.specs.declared.port.PortState.{PortState}
-use Rattle.ptp_base.specs.declared.port.PortState.TheVariants.{Initializing, Faulty, Disabled, Listening, PreMaster, Master, Passive, Uncalibrated, Slave}
 use Rattle.model_clock.specs.declared.state.ClockState.{ClockState}
 use Rattle.ptp_profile.specs.declared.port.Timer.{Timer}
 use Rattle.ptp_profile.specs.declared.port.Timer.TheVariants.{AnnounceReceipt, Qualification, AnnounceSend, SyncSend, DelayRequest}
@@ -23,6 +20,7 @@ use Rattle.ptp_profile.specs.declared.seats.Held.{Held}
 use Rattle.ptp_profile.specs.declared.seats.Log.{Log}
 use Rattle.ptp_profile.specs.declared.seats.LogEntry.{LogEntry}
 use Rattle.ptp_profile.specs.declared.seats.LogEntry.TheVariants.{Order, Change}
+use Rattle.ptp_profile.specs.Naming.{◌<>◌, state_name, port_text}
 use Rattle.bc_history.specs.declared.entry.Input.{Input}
 use Rattle.bc_history.specs.declared.entry.Input.TheVariants.{Frame, Timed, Down, Up, Report, Turn, Sampled, Query}
 use Rattle.bc_history.specs.declared.entry.Outcome.{Outcome}
@@ -31,16 +29,11 @@ use Rattle.bc_history.specs.declared.entry.Seen.{Seen}
 use Rattle.bc_history.specs.declared.entry.Moved.{Moved}
 use Rattle.bc_history.specs.declared.entry.Sent.{Sent}
 use Rattle.bc_history.specs.declared.entry.Told.{Told}
-use Rattle.bc_history.specs.declared.entry.AskError.{AskError}
-use Rattle.bc_history.specs.declared.entry.AskError.TheVariants.{Action as Ask_action, Unknown as Ask_unknown, Target as Ask_target}
+use Rattle.ptp_profile.specs.declared.management.AskError.{AskError}
+use Rattle.ptp_profile.specs.declared.management.AskError.TheVariants.{Action as Ask_action, Unknown as Ask_unknown, Target as Ask_target}
 use Rattle.bc_history.specs.declared.entry.Effects.{Effects}
 use Rattle.bc_history.specs.declared.entry.Entry.{Entry}
 use Rattle.bc_history.specs.declared.entry.Run.{Run}
-
-infixr 30 ◌<>◌
--- one text, and then another: it groups to the right, as the pieces of a format do
-abbrev pub ◌<>◌ : List ℕ → List ℕ → List ℕ
-a <> b = a ++ b
 
 -- ---- words
 
@@ -50,17 +43,6 @@ timer_name Qualification = codes "qualification"
 timer_name AnnounceSend = codes "announce_send"
 timer_name SyncSend = codes "sync_send"
 timer_name DelayRequest = codes "delay_request"
-
-abbrev pub state_name : PortState → List ℕ
-state_name Initializing = codes "INITIALIZING"
-state_name Faulty = codes "FAULTY"
-state_name Disabled = codes "DISABLED"
-state_name Listening = codes "LISTENING"
-state_name PreMaster = codes "PRE_MASTER"
-state_name Master = codes "MASTER"
-state_name Passive = codes "PASSIVE"
-state_name Uncalibrated = codes "UNCALIBRATED"
-state_name Slave = codes "SLAVE"
 
 abbrev pub drop_name : Reject → List ℕ
 drop_name Short = codes "short"
@@ -85,13 +67,6 @@ fate_name Paired = codes "paired"
 fate_name Matched = codes "matched"
 fate_name Unmatched = codes "unmatched"
 fate_name Answered = codes "answered"
-
--- a clock's identity: six, four and six hex digits
-abbrev pub identity_text : List ℕ → List ℕ
-identity_text digits = take 6 digits <> codes "." <> take 4 (drop 6 digits) <> codes "." <> drop 10 digits
-
-abbrev pub port_text : PortId → List ℕ
-port_text p = identity_text (encode_lower (big_bytes 8 p.clock.id)) <> codes "-" <> decimal p.port
 
 -- ---- the input of an entry
 

@@ -1,5 +1,6 @@
 use ptp_base::{Items, Octets, PortId, PortState};
-use ptp_profile::{Action, Fate, Held, Lead, Log, Measure, RoleOrder, Timer};
+use ptp_profile::management::{Answers, AskError};
+use ptp_profile::{Action, Fate, Held, Lead, Logs, Measure, RoleOrder, Timer};
 
 /// What an exchange gave.
 #[derive(Clone, Copy, Debug, PartialEq, Eq)]
@@ -99,29 +100,14 @@ pub struct Told {
     pub missed: u32,
 }
 
-/// Why a query makes no request.
-#[derive(Clone, Copy, Debug, PartialEq, Eq)]
-pub enum AskError {
-    /// The first word is no action.
-    Action,
-    /// The second word is no name of the table.
-    Unknown,
-    /// The third word names no target.
-    Target,
-}
-
 /// Changes of state, by rising port.
 pub type Moves = Items<Moved>;
 /// Orders, in their order.
 pub type RoleOrders = Items<RoleOrder>;
 /// Frames that were sent, in their order.
 pub type Sends = Items<Sent>;
-/// Answers to a query.
-pub type Answers = Items<Octets>;
 /// Entries, the oldest first.
 pub type Entries = Items<Entry>;
-/// Logs, by rising clock.
-pub type Logs = Items<Log>;
 
 /// What follows from an input.
 #[derive(Debug, Drop)]

@@ -6,6 +6,7 @@ ghost use Rattle.ptp_profile.specs.declared.seats.LogEntry.{LogEntry};
 ghost use Rattle.bc_history.specs.Inputs.{tick_of};
 ghost use Rattle.bc_history.specs.History.{IsHistory, IsFinished, Follows};
 ghost use Rattle.bc_history.specs.Outcomes.{Agrees, IsHolder};
+ghost use Rattle.bc_history.specs.Ports.{ArePortsOf};
 ghost use Rattle.bc_history.specs.World.{End, IsEnd, exchanged};
 ghost use Rattle.ptp_profile.specs.Roles.{AtMostOneFollows};
 ghost use Rattle.bc_history.specs.Generations.{states_of};
@@ -16,6 +17,12 @@ ghost use Rattle.bc_history.specs.declared.scenario.Scenario.{Scenario};
 /// After every list of entries at most one port is UNCALIBRATED or SLAVE.
 pub fn at_most_one_follows()
     ensures { (s : Scenario) (entries : List Entry) → AtMostOneFollows (states_of (state_of s entries).core.ports) }
+{}
+
+/// After every list of entries the ports are those of the scenario: as many, and each with its number
+/// and its configuration.
+pub fn ports_stay()
+    ensures { (s : Scenario) (entries : List Entry) → ArePortsOf s (state_of s entries).core.ports }
 {}
 
 /// A scenario ends in at most one way: with one run, or at one turn that has no step, or at one event

@@ -4,11 +4,13 @@
 mod entry;
 mod examples;
 mod laws;
+mod option;
+mod option_laws;
 mod scenario;
 
 pub use entry::{
-    Answers, AskError, Effects, Entries, Entry, Input, Logs, Moved, Moves, Outcome, RoleOrders,
-    Run, Seen, Sends, Sent, Told, Who,
+    Effects, Entries, Entry, Input, Moved, Moves, Outcome, RoleOrders, Run, Seen, Sends, Sent,
+    Told, Who,
 };
 pub use examples::{
     class_decides, follows_a_master, follows_on_one_clock, frames_pair, handed_over, log_is_full,
@@ -16,7 +18,12 @@ pub use examples::{
 };
 pub use laws::{
     at_most_one_follows, exchanges_agree, has_one_end, moments_never_fall, nothing_follows_the_end,
+    ports_stay,
 };
+pub use option::{Form, OptionName, Scope};
+pub use option_laws::{defaults_are_of_the_table, options_are_named};
+pub use ptp_profile::Logs;
+pub use ptp_profile::management::{Answers, AskError};
 pub use scenario::{
     Asked, AskedList, ClockStates, Happening, Options, PortConfs, Record, RecordList, Scenario,
     Turner, Turns, TurnsList,

@@ -1,57 +1,46 @@
--- The lines of a transcript, piece by piece.
-use Rattle.std.proofs.Common.{◌≡◌, ℕ, suc, ◌+◌, ◌<◌, List, [], ◌∷◌, ◌++◌, length, map, take, get_or, pos, refl, sym, arith, append_assoc, codes, lit<}
+-- The lines of a transcript, of the pieces that are added one after another.
+use Rattle.std.proofs.Common.{◌≡◌, ℕ, suc, ◌+◌, List, [], ◌∷◌, ◌++◌, refl, sym, append_assoc, codes}
 use Rattle.std.specs.Fmt.{decimal, signed_decimal}
-use Rattle.std.proofs.lemmas.Fmt.{decimal_digit}
-use Rattle.std.proofs.lemmas.List.{append-nil, take_more, map_more, length-map, length-take-le}
-use Rattle.model_clock.specs.declared.state.ClockState.{ClockState}
+use Rattle.std.proofs.lemmas.List.{append-nil}
+use Rattle.hex.specs.Hex.{encode_lower}
+use Rattle.ptp_profile.specs.declared.roles.RoleOrder.{RoleOrder}
 use Rattle.ptp_profile.specs.declared.seats.Log.{Log}
 use Rattle.bc_history.specs.declared.entry.Entry.{Entry}
-use Rattle.bc_history.specs.Text.{state_name, effects_text, entry_text, entries_text, drift_text, log_text, logs_text}
-use Rattle.bc_top.specs.declared.replay.Fired.{Fired}
-use Rattle.bc_top.specs.Silent.{entry_of, quiet_log, quiet_logs}
+use Rattle.bc_history.specs.declared.entry.Sent.{Sent}
+use Rattle.bc_top.specs.Lines.{order_text, frame_text, answer_text}
+use Rattle.ptp_profile.specs.Naming.{◌<>◌}
+use Rattle.bc_history.specs.Text.{orders_text, frames_text, answers_text, input_text, seen_text, effects_text, entry_text, drift_text, log_entries_text, log_text}
 
--- the lines of a timer that fired
-pub fired_lines : (n : ℕ) (f : Fired) (out first second new old_name new_name : List ℕ) → old_name ≡ state_name f.moved.old → new_name ≡ state_name f.moved.new
-    → first ≡ out ++ (codes "event " ++ (decimal n ++ (codes " " ++ (decimal f.tick ++ (codes " port " ++ (decimal f.moved.port ++ (codes " timer " ++ (decimal f.tick ++ codes " announce_receipt"))))))))
-    → second ≡ first ++ (codes " seen 0 " ++ (decimal f.tick ++ codes " 0\n"))
-    → new ≡ second ++ (codes "  state " ++ (decimal f.moved.port ++ (codes " " ++ (old_name ++ (codes " " ++ (new_name ++ codes "\n"))))))
-    → new ≡ out ++ entry_text n (entry_of f)
-unfolding entry_text effects_text
-fired_lines n f out first second new old_name new_name old_is new_is first_is second_is is =
-    let zero_is : decimal 0 ≡ codes "0" = decimal_digit 0 (lit< tt) in
-    rw (is, second_is, first_is, old_is, new_is) (simp (append_assoc, append-nil, zero_is))
+pub orders_text-more : (order : RoleOrder) (orders : List RoleOrder) → orders_text (order ∷ orders) ≡ order_text order ++ orders_text orders
+unfolding order_text
+orders_text-more order orders = sym (simp (append_assoc, append-nil))
 
-pub clock_line : (clock : ℕ) (opening : ClockState) (out new drift : List ℕ) → drift ≡ drift_text opening
-    → new ≡ out ++ (codes "clock " ++ (decimal clock ++ (codes " " ++ (signed_decimal opening.time ++ (codes " " ++ (drift ++ codes "\n"))))))
-    → new ≡ out ++ log_text (quiet_log clock opening)
+pub frames_text-more : (sent : Sent) (frames : List Sent) → frames_text (sent ∷ frames) ≡ frame_text sent ++ frames_text frames
+unfolding frame_text
+frames_text-more sent frames = sym (simp (append_assoc, append-nil))
+
+pub answers_text-more : (answer : List ℕ) (answers : List (List ℕ)) → answers_text (answer ∷ answers) ≡ answer_text answer ++ answers_text answers
+unfolding answer_text
+answers_text-more answer answers = sym (simp (append_assoc, append-nil))
+
+entry_parts : (number moment input seen effects out head with_input with_seen line new : List ℕ)
+    → head ≡ out ++ (codes "event " ++ (number ++ (codes " " ++ (moment ++ codes " ")))) → with_input ≡ head ++ input → with_seen ≡ with_input ++ seen → line ≡ with_seen ++ codes "\n"
+    → new ≡ line ++ effects → new ≡ out ++ (codes "event " <> number <> codes " " <> moment <> codes " " <> input <> seen <> codes "\n" <> effects)
+entry_parts number moment input seen effects out head with_input with_seen line new head_is input_is seen_is line_is is = rw (is, line_is, seen_is, input_is, head_is) (simp append_assoc)
+
+log_parts : (clock time drift entries out head with_drift line new : List ℕ)
+    → head ≡ out ++ (codes "clock " ++ (clock ++ (codes " " ++ (time ++ codes " ")))) → with_drift ≡ head ++ drift → line ≡ with_drift ++ codes "\n"
+    → new ≡ line ++ entries → new ≡ out ++ (codes "clock " <> clock <> codes " " <> time <> codes " " <> drift <> codes "\n" <> entries)
+log_parts clock time drift entries out head with_drift line new head_is drift_is line_is is = rw (is, line_is, drift_is, head_is) (simp append_assoc)
+
+pub entry_lines : (n : ℕ) (e : Entry) (out head input seen line new : List ℕ)
+    → head ≡ out ++ (codes "event " ++ (decimal n ++ (codes " " ++ (decimal e.moment ++ codes " ")))) → input ≡ head ++ input_text e.input → seen ≡ input ++ seen_text e.seen → line ≡ seen ++ codes "\n"
+    → new ≡ line ++ effects_text e.effects → new ≡ out ++ entry_text n e
+unfolding entry_text
+entry_lines n e out head input seen line new head_is input_is seen_is line_is is = entry_parts (decimal n) (decimal e.moment) (input_text e.input) (seen_text e.seen) (effects_text e.effects) out head input seen line new head_is input_is seen_is line_is is
+
+pub log_lines : (log : Log) (out head drift line new : List ℕ)
+    → head ≡ out ++ (codes "clock " ++ (decimal log.clock ++ (codes " " ++ (signed_decimal log.opening.time ++ codes " ")))) → drift ≡ head ++ drift_text log.opening → line ≡ drift ++ codes "\n"
+    → new ≡ line ++ log_entries_text log.clock 1 log.entries → new ≡ out ++ log_text log
 unfolding log_text
-clock_line clock opening out new drift drift_is is = rw (is, drift_is) refl
-
-entries_text-push : (n : ℕ) (es : List Entry) (e : Entry) → entries_text n (es ++ e ∷ []) ≡ entries_text n es ++ entry_text (n + length es) e
-entries_text-push n [] e = let zero : n + 0 ≡ n = omega arith in rw zero (append-nil (entry_text n e))
-entries_text-push n (x ∷ es) e =
-    let same : n + suc (length es) ≡ n + 1 + length es = omega arith in
-    rw (entries_text-push (n + 1) es e, same) (sym (append_assoc (entry_text n x) (entries_text (n + 1) es) (entry_text (n + 1 + length es) e)))
-
-entries_text-more : (fs : List Fired) (i : ℕ) (d : Fired) → i < length fs
-    → entries_text 1 (map entry_of (take (i + 1) fs)) ≡ entries_text 1 (map entry_of (take i fs)) ++ entry_text (i + 1) (entry_of (get_or fs i d))
-entries_text-more fs i d lt =
-    let len : 1 + length (map entry_of (take i fs)) ≡ i + 1 = omega (arith, length-map (take i fs) entry_of, length-take-le i fs) in
-    rw (map_more entry_of fs i d lt, entries_text-push) (rw len refl)
-
-pub entries_text-grown : (fs : List Fired) (i : ℕ) (d : Fired) (front out new : List ℕ) → i < length fs
-    → out ≡ front ++ entries_text 1 (map entry_of (take i fs)) → new ≡ out ++ entry_text (i + 1) (entry_of (get_or fs i d)) → new ≡ front ++ entries_text 1 (map entry_of (take (i + 1) fs))
-entries_text-grown fs i d front out new lt is more =
-    rw (more, is, entries_text-more fs i d lt) (append_assoc front (entries_text 1 (map entry_of (take i fs))) (entry_text (i + 1) (entry_of (get_or fs i d))))
-
-quiet_logs-push : (c : ℕ) (clocks : List ClockState) (x : ClockState) → logs_text (quiet_logs c (clocks ++ x ∷ [])) ≡ logs_text (quiet_logs c clocks) ++ log_text (quiet_log (c + length clocks) x)
-quiet_logs-push c [] x = let zero : c + 0 ≡ c = omega arith in rw zero (append-nil (log_text (quiet_log c x)))
-quiet_logs-push c (y ∷ clocks) x =
-    let same : c + suc (length clocks) ≡ c + 1 + length clocks = omega arith in
-    rw (quiet_logs-push (c + 1) clocks x, same) (sym (append_assoc (log_text (quiet_log c y)) (logs_text (quiet_logs (c + 1) clocks)) (log_text (quiet_log (c + 1 + length clocks) x))))
-
-pub quiet_logs-grown : (clocks : List ClockState) (i : ℕ) (d : ClockState) (front out new : List ℕ) → i < length clocks
-    → out ≡ front ++ logs_text (quiet_logs 0 (take i clocks)) → new ≡ out ++ log_text (quiet_log i (get_or clocks i d)) → new ≡ front ++ logs_text (quiet_logs 0 (take (i + 1) clocks))
-quiet_logs-grown clocks i d front out new lt is more =
-    let len : 0 + length (take i clocks) ≡ i = omega (arith, length-take-le i clocks) in
-    rw (more, is, take_more clocks i d lt, quiet_logs-push) (rw len (append_assoc front (logs_text (quiet_logs 0 (take i clocks))) (log_text (quiet_log i (get_or clocks i d)))))
+log_lines log out head drift line new head_is drift_is line_is is = log_parts (decimal log.clock) (signed_decimal log.opening.time) (drift_text log.opening) (log_entries_text log.clock 1 log.entries) out head drift line new head_is drift_is line_is is

@@ -1,5 +1,5 @@
 -- The run of ports that receive nothing is the World of their scenario: each of the scenarios is evaluated.
-use Rattle.std.proofs.Common.{◌≡◌, ℕ, zero, suc, ◌+◌, ◌<◌, ◌≤◌, refl, arith}
+use Rattle.std.proofs.Common.{ℕ, zero, suc, ◌<◌, ◌≤◌, refl, arith}
 use Rattle.bc_history.specs.World.{status_after, IsWorld}
 use Rattle.bc_history.specs.Step.{step, state_of}
 use Rattle.bc_history.specs.Own.{owned}

@@ -4,8 +4,12 @@ pub mod Reading
 pub mod Writing
 pub mod Spelled
 pub mod Due
+pub mod Ticks
+pub mod Cursor
+pub mod Loop
 pub mod Ports
 pub mod Silent
 pub mod Call
 pub mod Causes
 pub mod Complete
+pub mod Lines

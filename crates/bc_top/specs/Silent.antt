@@ -35,6 +35,10 @@ fired_entry moved tick = record {
 abbrev pub entry_of : Fired → Entry
 entry_of fired = fired_entry fired.moved fired.tick
 
+-- the timer fired at a tick that a clock can read
+abbrev pub IsEarly : Fired → Type 0
+IsEarly fired = fired.tick ≤ 6000000000
+
 -- the log of a clock that nothing orders or changes
 abbrev pub quiet_log : ℕ → ClockState → Log
 quiet_log clock opening = record { clock = clock; opening = opening; entries = [] }

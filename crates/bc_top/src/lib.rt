@@ -1,9 +1,13 @@
 //! The top call: from the words, the source and the sink of one run to its end.
 #![tactic(auto)]
 
+pub mod cursor;
+pub mod due;
+pub mod laws;
 mod outcome;
 mod read;
 mod replay;
+mod run;
 mod scenario;
 mod top;
 mod transcript;

@@ -2,9 +2,11 @@ ghost use Rattle.std.specs.Prelude.{◌≡◌, ℕ, ◌+◌, ◌-◌, ◌*◌, �
 ghost use Rattle.bc_history.specs.World.{IsWorld};
 ghost use Rattle.bc_top.specs.Due.{IsFirstDue, IsNoneDue};
 ghost use Rattle.bc_top.specs.Ports.{HasInterval, open_port, fired_port};
-ghost use Rattle.bc_top.specs.Silent.{IsSilent, run_of};
+ghost use Rattle.bc_top.specs.Silent.{IsSilent, IsEarly, run_of};
 
-use bc_history::{Moved, Scenario};
+use crate::due::earlier;
+use crate::run::run_of;
+use bc_history::{Moved, Run, Scenario};
 use ptp_base::{NoMemory, PortConf, PortState, interval};
 use std::alloc::Global;
 
@@ -36,16 +38,6 @@ fn first_due(ports: &[PortNow], duration: u64) -> Option<(usize, u64)>
         }
     }
     best
-}
-
-/// The earlier of two, and the former one of equals.
-fn earlier(best: Option<(usize, u64)>, i: usize, tick: u64) -> Option<(usize, u64)>
-    ensures { MatchOption best (result ≡ Some (i, tick)) (λ b. (tick < b.1 → result ≡ Some (i, tick)) × (b.1 ≤ tick → result ≡ best)) }
-{
-    match best {
-        Some((_, least)) if least <= tick => best,
-        _ => Some((i, tick)),
-    }
 }
 
 /// The ports as a run begins.
@@ -95,9 +87,10 @@ fn fire(ports: &mut Vec<PortNow>, i: usize) -> Moved
 }
 
 /// The timers that fire in a scenario of ports that receive nothing, in their order.
-pub fn replay(alloc: Global, s: &Scenario) -> Result<Vec<Fired>, NoMemory>
+fn fire_all(alloc: Global, s: &Scenario) -> Result<Vec<Fired>, NoMemory>
     requires { IsSilent s.now }
-    ensures { IfOk result (λ fired. IsWorld s.now (run_of fired.items s.now.clocks)) }
+    ensures world { IfOk result (λ fired. IsWorld s.now (run_of fired.items s.now.clocks)) }
+    ensures early { IfOk result (λ fired. All IsEarly fired.items) }
 {
     let mut ports = opening(alloc, s.ports.items())?;
     let mut fired = Vec::new(alloc);
@@ -106,4 +99,13 @@ pub fn replay(alloc: Global, s: &Scenario) -> Result<Vec<Fired>, NoMemory>
         fired.push(Fired { moved, tick })?;
     }
     Ok(fired)
+}
+
+/// The run of a scenario of ports that receive nothing.
+pub fn replay(alloc: Global, s: &Scenario) -> Result<Run, NoMemory>
+    requires { IsSilent s.now }
+    ensures { IfOk result (λ run. IsWorld s.now run) }
+{
+    let fired = fire_all(alloc, s)?;
+    run_of(alloc, &fired, s.clocks.items())
 }

@@ -11,20 +11,19 @@ use crate::scenario::read_scenario;
 use crate::transcript::transcript;
 use crate::words::is_replay;
 use crate::write::write_all;
-use ptp_base::NoMemory;
+use ptp_base::{NoMemory, Octets};
 use std::alloc::Global;
 use text_io::{Reason, Sink, Source};
 
 /// The transcript of the run of the scenario that the text stands for, if any.
-fn transcript_of(alloc: Global, text: &[u8]) -> Result<Option<String>, NoMemory>
-    ensures { IfOk result (λ found. MatchOption found (StandsForNone text.now) (λ out. IsTranscriptOf text.now (string_bytes out))) }
+fn transcript_of(alloc: Global, text: &[u8]) -> Result<Option<Octets>, NoMemory>
+    ensures { IfOk result (λ found. MatchOption found (StandsForNone text.now) (λ out. IsTranscriptOf text.now out)) }
 {
     match read_scenario(alloc, text)? {
         None => Ok(None),
         Some(scenario) => {
-            let fired = replay(alloc, &scenario)?;
-            let out = transcript(alloc, &fired, scenario.clocks.items())?;
-            Ok(Some(out))
+            let run = replay(alloc, &scenario)?;
+            Ok(Some(transcript(alloc, &run)?))
         }
     }
 }
@@ -52,7 +51,7 @@ fn serve<S: Source, K: Sink>(alloc: Global, words: &[String], source: &mut S, si
             line: 0,
             reason: Reason::Unbuilt,
         },
-        Ok(Some(out)) => match write_all(sink, out.as_bytes()) {
+        Ok(Some(out)) => match write_all(sink, out.items()) {
             Ok(()) => End::Done,
             Err(_) => End::WriteFault,
         },

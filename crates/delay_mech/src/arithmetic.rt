@@ -49,6 +49,16 @@ pub(crate) fn half(sum: Scaled) -> Scaled
     floor_div(sum, 2)
 }
 
+/// The floor of the middle between two delays, in ns times 65,536.
+pub(crate) fn halfway(a: Scaled, b: Scaled) -> Scaled
+    requires first { IsDelay a }
+    requires second { IsDelay b }
+    ensures exact { result ≡ floor_of (a +ℤ b) (pos 2) }
+    ensures within { IsDelay result }
+{
+    half(a + b)
+}
+
 /// The delay that a Sync, a Delay_Req and its Delay_Resp show (IEEE 1588-2019, 11.3.2), rounded
 /// towards minus infinity, in ns times 65,536. `sent` and `received` are the times of the Delay_Req,
 /// in ns, and `correction` is that of the Delay_Resp, in ns times 65,536.

@@ -1,6 +1,6 @@
-ghost use Rattle.std.specs.Prelude.{◌≡◌, ◌≤◌, ℤ, List, [], IfOk, option_map};
+ghost use Rattle.std.specs.Prelude.{◌≡◌, ◌≤◌, ℤ, List, [], IfOk, IfSome, option_map};
 ghost use Rattle.ptp_profile.specs.Sync.{with_delay, median, mean_of};
-ghost use Rattle.delay_mech.specs.Memory.{Remembers, IsCorrection, empty, request_of, answered_by, after_response, response_to};
+ghost use Rattle.delay_mech.specs.Memory.{Remembers, IsCorrection, IsDelay, empty, request_of, answered_by, after_response, response_to};
 
 use crate::arithmetic::delay;
 use crate::median::median;
@@ -129,6 +129,9 @@ impl Delays {
     pub fn mean(&self) -> Option<Scaled>
         ensures exact { result ≡ median self.now.delays }
         ensures all { (all : List ℤ) → Remembers self.now all → result ≡ mean_of self.now.length all }
+
+        // It is from -2^82 to 2^82.
+        ensures within { IfSome result IsDelay }
     {
         let mut numbers = [0; 32];
         let count = self.delays.len();

@@ -15,3 +15,4 @@ pub mod SenderLemmas
 pub mod CodeLemmas
 pub mod CoherenceLemmas
 pub mod GrantLemmas
+pub mod ManagedLemmas

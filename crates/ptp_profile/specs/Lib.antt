@@ -18,3 +18,7 @@ pub mod Forest
 pub mod Logs
 pub mod BestLaws
 pub mod BestExamples
+pub mod Naming
+pub mod Management
+pub mod Fields
+pub mod Queries

@@ -4,7 +4,10 @@
 
 mod best_master;
 mod foreign;
+pub mod management;
+mod management_laws;
 mod message;
+pub mod numbers;
 mod port;
 mod role_laws;
 mod roles;
@@ -18,6 +21,10 @@ pub use best_master::{
     pass_in_order, paths_compared, ports_decided, qualified_set, two_qualify,
 };
 pub use foreign::{Heard, KeptAnnounce, Order, PortBest};
+pub use management_laws::{
+    holds_management_numbers, managed_is_what_is_read, one_management_spelling,
+    tests_tell_management,
+};
 pub use message::{Body, Message, Reject, Said};
 pub use port::{Fate, PortEvent, Timer};
 pub use role_laws::{
@@ -31,7 +38,7 @@ pub use role_laws::{
     the_same_edges_are_equal, two_logs_are_lawful,
 };
 pub use roles::{Edge, Lead, Notice, RoleOrder};
-pub use seats::{Held, Log, LogEntry, Reading, Receipt, Refused};
+pub use seats::{Held, Log, LogEntries, LogEntry, Logs, Reading, Receipt, Refused};
 pub use timing::{Action, Measure, ServoConf};
 pub use timing_laws::{
     drift_is_estimated, examples_are_answered, examples_are_clocked, examples_are_measured,

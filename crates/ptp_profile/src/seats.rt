@@ -51,10 +51,16 @@ pub enum LogEntry {
     },
 }
 
+/// The entries of a log, the oldest first.
+pub type LogEntries = Items<LogEntry>;
+
 /// A clock's opening, and what was ordered and changed since, the oldest first.
 #[derive(Debug, Drop)]
 pub struct Log {
     pub clock: u8,
     pub opening: ClockState,
-    pub entries: Items<LogEntry>,
+    pub entries: LogEntries,
 }
+
+/// Logs, by rising clock.
+pub type Logs = Items<Log>;

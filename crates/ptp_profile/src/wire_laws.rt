@@ -15,7 +15,7 @@ pub fn one_spelling()
 {}
 
 // A port in memory holds numbers that fit.
-fn port_fits(p: &PortId)
+pub(crate) fn port_fits(p: &PortId)
     ensures { FitsPort p.now }
 {
     let _id = p.clock.id;

@@ -4,7 +4,6 @@
 
 mod fields;
 mod flags;
-mod numbers;
 mod reading;
 mod writing;
 

@@ -8,22 +8,9 @@ ghost use Rattle.ptp_profile.specs.Wire.{number_at, port_at, time_at, said_at, k
 
 use crate::fields::*;
 use crate::flags::known_flags;
-use crate::numbers::{u16_at, u32_at, u48_at, u64_at};
-use ptp_base::{ClockId, PortId, Quality};
+use ptp_base::{ClockId, Quality};
+use ptp_profile::numbers::{port_at, u16_at, u32_at, u48_at, u64_at};
 use ptp_profile::{Body, Message, Reject, Said};
-
-// clockIdentity and portNumber (5.3.5).
-fn port_at(octets: &[u8], at: usize) -> PortId
-    requires { at + 10 ≤ length octets.now }
-    ensures { result ≡ port_at at octets.now }
-{
-    PortId {
-        clock: ClockId {
-            id: u64_at(octets, at),
-        },
-        port: u16_at(octets, at + 8),
-    }
-}
 
 // The timestamp in ns (5.3.3).
 fn time_at(octets: &[u8]) -> i64

@@ -33,7 +33,7 @@ fn better(best: Option<Announcement>, later: &Option<Announcement>) -> Option<An
 
 /// The best announcement that any port hears: Ebest, the winner of one pass over the ports in
 /// rising number (IEEE 1588-2019, 9.3.2; the order of the pass is own).
-pub(crate) fn ebest(ports: &[PortBest]) -> Option<Announcement>
+pub fn ebest(ports: &[PortBest]) -> Option<Announcement>
     ensures { result ≡ ebest (bests_of ports.now) }
 {
     let mut best = None;

@@ -6,6 +6,7 @@ mod best;
 mod code;
 mod decision;
 
+pub use best::ebest;
 pub use decision::decide_all;
 pub use ptp_base::Code;
 pub use ptp_profile::PortBest;

@@ -1,6 +1,6 @@
-ghost use Rattle.std.specs.Prelude.{◌≡◌, ◌+ℤ◌, List, [], ◌∷◌};
+ghost use Rattle.std.specs.Prelude.{◌≡◌, ◌+ℤ◌, List, [], ◌∷◌, IfSome};
 ghost use Rattle.ptp_profile.specs.Sync.{Piece, Follow_up, given, triple_from};
-ghost use Rattle.sync_match.specs.Waiting.{Remembers, sync_of};
+ghost use Rattle.sync_match.specs.Waiting.{Remembers, IsSmall, sync_of};
 
 use crate::half::Half;
 use ptp_base::Triple;
@@ -8,7 +8,8 @@ use std::marker::Model;
 
 /// The times of a Sync and its Follow_Up, and the corrections of both (IEEE 1588-2019, 11.2).
 fn joined(precise: i64, arrived: i64, correction: i64, added: i64) -> Triple
-    ensures { result ≡ triple_from precise arrived (correction +ℤ added) }
+    ensures exact { result ≡ triple_from precise arrived (correction +ℤ added) }
+    ensures small { IsSmall result.correction }
 {
     Triple {
         origin: precise,
@@ -66,6 +67,7 @@ impl Pairing {
             → result ≡ given (sync_of seq two_step origin arrived correction) before }
         ensures kept { (before : List Piece) → Remembers self.old before
             → Remembers self.new (sync_of seq two_step origin arrived correction ∷ before) }
+        ensures small { IfSome result (λ t. IsSmall t.correction) }
     {
         if !two_step {
             self.kept = None;
@@ -107,6 +109,7 @@ impl Pairing {
             → result ≡ given (Follow_up seq precise correction) before }
         ensures kept { (before : List Piece) → Remembers self.old before
             → Remembers self.new (Follow_up seq precise correction ∷ before) }
+        ensures small { IfSome result (λ t. IsSmall t.correction) }
     {
         match self.kept {
             Some(

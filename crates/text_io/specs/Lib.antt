@@ -1,2 +1,4 @@
 pub mod Outside
 pub mod Memory
+pub mod Lines
+pub mod Numerals

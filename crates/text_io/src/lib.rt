@@ -2,6 +2,8 @@
 #![tactic(auto)]
 
 mod adapters;
+mod lines;
+mod numerals;
 mod outside;
 mod reason;
 mod sink;
@@ -9,6 +11,8 @@ mod source;
 mod sure;
 
 pub use adapters::{InAdapter, OutAdapter};
+pub use lines::{Words, is_printable, lines_in, words_in};
+pub use numerals::{hex_number, identity, number, seconds, signed};
 pub use outside::{Failed, Sink, Source};
 pub use reason::Reason;
 pub use sink::MemSink;

@@ -92,3 +92,120 @@ fn reasons_are_words(rt: HostRuntime) -> Result<(), Fail> {
     }
     Ok(())
 }
+
+#[test]
+fn lines_end_with_newlines(rt: HostRuntime) -> Result<(), Fail> {
+    let mut given = 0;
+    for line in lines_in(b"a\r\n\n\r\r\nb\r") {
+        let wanted: [&[u8]; 4] = [b"a", b"", b"\r", b"b\r"];
+        assert_eq!(rt; given < 4, true);
+        if given < 4 {
+            assert_eq!(rt; line, wanted[given]);
+            given += 1;
+        }
+    }
+    assert_eq!(rt; given, 4);
+    Ok(())
+}
+
+#[test]
+fn words_are_parted_by_blanks(rt: HostRuntime) -> Result<(), Fail> {
+    let mut words = words_in(b" \t[port  2]\t");
+    assert_eq!(rt; words.next(), Some(b"[port".as_slice()));
+    assert_eq!(rt; words.next(), Some(b"2]".as_slice()));
+    assert_eq!(rt; words.next(), None);
+    Ok(())
+}
+
+#[test]
+fn octets_that_show(rt: HostRuntime) {
+    for (line, printable) in [
+        (b"\t ~".as_slice(), true),
+        (b"", true),
+        (b"a\r", false),
+        (b"\x7f", false),
+        (b"\x1f", false),
+        (b"\xc3\xa4", false),
+    ] {
+        assert_eq!(rt; is_printable(line), printable);
+    }
+}
+
+#[test]
+fn numbers(rt: HostRuntime) {
+    for (word, value) in [
+        (b"0".as_slice(), Some(0)),
+        (b"007", Some(7)),
+        (b"99999999999999999999", Some(99_999_999_999_999_999_999)),
+        (b"00000000000000000001", Some(1)),
+        (b"000000000000000000001", None),
+        (b"", None),
+        (b"+1", None),
+        (b"-1", None),
+        (b"1a", None),
+    ] {
+        assert_eq!(rt; number(word), value);
+    }
+}
+
+#[test]
+fn signed_numbers(rt: HostRuntime) {
+    for (word, value) in [
+        (b"-0".as_slice(), Some(0)),
+        (b"-07", Some(-7)),
+        (b"12", Some(12)),
+        (b"-", None),
+        (b"--1", None),
+        (b"-000000000000000000001", None),
+    ] {
+        assert_eq!(rt; signed(word), value);
+    }
+}
+
+#[test]
+fn hex_numbers(rt: HostRuntime) {
+    for (word, value) in [
+        (b"0xFf".as_slice(), Some(255)),
+        (b"0x0", Some(0)),
+        (b"0x", None),
+        (b"0XFF", None),
+        (b"0x0ff", None),
+        (b"ff", None),
+    ] {
+        assert_eq!(rt; hex_number(word, 2), value);
+    }
+}
+
+#[test]
+fn seconds_are_ns(rt: HostRuntime) {
+    for (word, value) in [
+        (b"20".as_slice(), Some(20_000_000_000)),
+        (b"0.5", Some(500_000_000)),
+        (b"0.00002", Some(20_000)),
+        (b"01.000000001", Some(1_000_000_001)),
+        (b"1.", None),
+        (b".5", None),
+        (b"1.0000000001", None),
+        (b"1.2.3", None),
+        (b"-1.0", None),
+    ] {
+        assert_eq!(rt; seconds(word), value);
+    }
+}
+
+#[test]
+fn identities(rt: HostRuntime) {
+    for (word, value) in [
+        (
+            b"020000.fffe.000001".as_slice(),
+            Some(0x0200_00ff_fe00_0001),
+        ),
+        (b"ABCDEF.0123.456789", Some(0xabcd_ef01_2345_6789)),
+        (b"020000.fffe.00001", None),
+        (b"020000.fffe.0000001", None),
+        (b"020000fffe.0000001", None),
+        (b"02000g.fffe.000001", None),
+    ] {
+        assert_eq!(rt; identity(word), value);
+    }
+}

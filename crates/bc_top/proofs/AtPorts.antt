@@ -1,0 +1,126 @@
+-- The next input of a port by its cursor, and what it is of.
+use Rattle.std.proofs.Common.{◌≡◌, ◌≢◌, ℕ, ◌+◌, ◌<◌, Bool, true, false, cond, refl, sym, ap, subst, ◌∙◌, eqb, ltb, arith, inl, inr, List, [], ◌∷◌, length, filter, set, get_or-set_other, get_or-set_same, Option, Some, None, slice_get, eq-eqb, ne_eqb}
+use Rattle.std.proofs.lemmas.Bool.Decides.{eqb_tells}
+use Rattle.std.proofs.lemmas.Option.{same_Some, slice_get_within, get_or_from_slice_get, slice_get-get_or}
+use Rattle.std.proofs.Math.ListN.{length-set}
+use Rattle.ptp_base.specs.declared.port.PortConf.{PortConf}
+use Rattle.ptp_profile.specs.declared.port.Timer.{Timer}
+use Rattle.ptp_profile.specs.Timers.{due_of}
+use Rattle.ptp_profile.specs.declared.seats.LogEntry.{LogEntry}
+use Rattle.bc_history.specs.declared.entry.Entry.{Entry}
+use Rattle.bc_history.specs.declared.entry.Input.{Input}
+use Rattle.bc_history.specs.declared.entry.Input.TheVariants.{Timed}
+use Rattle.bc_history.specs.declared.scenario.Happening.{Happening}
+use Rattle.bc_history.specs.declared.scenario.Happening.TheVariants.{Frame as Frame_record, Down as Down_record, Up as Up_record}
+use Rattle.bc_history.specs.declared.scenario.Record.{Record}
+use Rattle.bc_history.specs.declared.scenario.Scenario.{Scenario}
+use Rattle.bc_history.specs.State.{HubPort}
+use Rattle.bc_history.specs.Inputs.{port_of}
+use Rattle.bc_history.specs.Next.{port_input, records_of, record_or_timer, input_of}
+use Rattle.bc_history.specs.World.{port_reading}
+use Rattle.bc_history.proofs.Faces.{port-state_of}
+use Rattle.bc_top.specs.Cursor.{is_record_of, taken_by, IsNextOf, IsCursor, AreCursors}
+use Rattle.bc_top.specs.Loop.{IsDueAt, ports_after, waiting_world, reading_by}
+use Rattle.bc_top.proofs.Cursors.{Cursor-opening, Cursor-next, Cursor-record}
+use Rattle.bc_top.proofs.Taken.{taken-state_of}
+
+-- ---- what an input is of
+
+port-happening : (p tick : ℕ) (what : Happening) → port_of (input_of p tick what) ≡ Some p
+port-happening p tick (Frame_record octets) = refl
+port-happening p tick Down_record = refl
+port-happening p tick Up_record = refl
+
+port-earlier : (p : ℕ) (b : Bool) (x y input : Input) → port_of x ≡ Some p → port_of y ≡ Some p → cond b (Some x) (Some y) ≡ Some input → port_of input ≡ Some p
+port-earlier p true x y input first second is = ap port_of (sym (same_Some x input is)) ∙ first
+port-earlier p false x y input first second is = ap port_of (sym (same_Some y input is)) ∙ second
+
+port-next : (p : ℕ) (r : Option Record) (t : Option (ℕ × Timer)) (input : Input) → record_or_timer p r t ≡ Some input → port_of input ≡ Some p
+port-next p None None input is = cc
+port-next p (Some r) None input is = ap port_of (sym (same_Some (input_of p r.tick r.what) input is)) ∙ port-happening p r.tick r.what
+port-next p None (Some t) input is = ap port_of (sym (same_Some (Timed p t.0 t.1) input is))
+port-next p (Some r) (Some t) input is = port-earlier p (ltb t.0 r.tick) (Timed p t.0 t.1) (input_of p r.tick r.what) input refl (port-happening p r.tick r.what) is
+
+-- what is due at a port is of the port's number
+pub port-due : (s : Scenario) (entries : List Entry) (k : ℕ) (input : Input) → IsDueAt s (ports_after s entries) k input → port_of input ≡ Some (k + 1)
+port-due s entries k input due =
+    let h = due.port in
+    port-next h.port.id.port (slice_get (records_of s h.port.id.port) h.taken) (due_of h.port.timers) input due.next
+    ∙ ap (λ (p : ℕ). Some p) (port-state_of s entries k h due.there).number
+
+-- a reading is one of the clock that the scenario has the port on
+pub reading-port : (s : Scenario) (entries : List Entry) (logs : List (List LogEntry)) (k : ℕ) (h : HubPort) (conf : PortConf) (input : Input) → slice_get (ports_after s entries) k ≡ Some h → slice_get s.ports k ≡ Some conf
+    → port_reading s (waiting_world s entries logs) h input ≡ reading_by s entries logs conf input
+reading-port s entries logs k h conf input there is =
+    let same : h.port.conf ≡ conf = same_Some h.port.conf conf (sym (port-state_of s entries k h there).conf ∙ is) in
+    ap (λ (c : PortConf). reading_by s entries logs c input) same
+
+-- ---- the next input by the cursor
+
+pub port_input-cursor : (s : Scenario) (entries : List Entry) (k c : ℕ) (h : HubPort) → slice_get (ports_after s entries) k ≡ Some h → IsCursor s.records (k + 1) (taken_by (k + 1) entries) c
+    → port_input s h ≡ record_or_timer (k + 1) (slice_get s.records c) (due_of h.port.timers)
+port_input-cursor s entries k c h there at =
+    ap (λ (p : ℕ). record_or_timer p (slice_get (records_of s p) h.taken) (due_of h.port.timers)) (port-state_of s entries k h there).number
+    ∙ (ap (λ (n : ℕ). record_or_timer (k + 1) (slice_get (records_of s (k + 1)) n) (due_of h.port.timers)) (taken-state_of s entries k h there)
+    ∙ ap (λ (r : Option Record). record_or_timer (k + 1) r (due_of h.port.timers)) (Cursor-record s (k + 1) (taken_by (k + 1) entries) c at))
+
+-- ---- the cursors along a history
+
+record-happening : (q p tick : ℕ) (what : Happening) → is_record_of q (input_of p tick what) ≡ eqb p q
+record-happening q p tick (Frame_record octets) = refl
+record-happening q p tick Down_record = refl
+record-happening q p tick Up_record = refl
+
+count-if : (b : Bool) (e : Entry) (es : List Entry) → b ≡ false → length (cond b (e ∷ es) es) ≡ length es
+count-if true e es h = cc
+count-if false e es h = refl
+
+count-one : (b : Bool) (e : Entry) (es : List Entry) → b ≡ true → length (cond b (e ∷ es) es) ≡ length es + 1
+count-one true e es h = omega arith
+count-one false e es h = cc
+
+taken-other : (q : ℕ) (e : Entry) (before : List Entry) → is_record_of q e.input ≡ false → taken_by q (e ∷ before) ≡ taken_by q before
+taken-other q e before other = count-if (is_record_of q e.input) e (filter (λ (x : Entry). is_record_of q x.input) before) other
+
+taken-one : (q : ℕ) (e : Entry) (before : List Entry) → is_record_of q e.input ≡ true → taken_by q (e ∷ before) ≡ taken_by q before + 1
+taken-one q e before one = count-one (is_record_of q e.input) e (filter (λ (x : Entry). is_record_of q x.input) before) one
+
+-- in the beginning each cursor stands at its port's first record
+pub Cursors-opening : (s : Scenario) (cursors : List ℕ) → ((k c : ℕ) → slice_get cursors k ≡ Some c → IsNextOf s.records (k + 1) 0 c) → AreCursors s [] cursors
+Cursors-opening s cursors first = λ k c is. Cursor-opening s.records (k + 1) c (first k c is)
+
+-- a timer moves none
+pub Cursors-timer : (s : Scenario) (entries : List Entry) (cursors : List ℕ) (e : Entry) (p tick : ℕ) (timer : Timer) → AreCursors s entries cursors → e.input ≡ Timed p tick timer → AreCursors s (e ∷ entries) cursors
+Cursors-timer s entries cursors e p tick timer at is = λ k c there.
+    let none : is_record_of (k + 1) e.input ≡ false = ap (λ (i : Input). is_record_of (k + 1) i) is in
+    subst (λ n. IsCursor s.records (k + 1) n c) (sym (taken-other (k + 1) e entries none)) (at k c there)
+
+get-set : (xs : List ℕ) (k j c d : ℕ) → slice_get (set xs k d) j ≡ Some c → j ≢ k → slice_get xs j ≡ Some c
+get-set xs k j c d is other =
+    let lt_set : j < length (set xs k d) = slice_get_within (set xs k d) j c is in
+    let lt : j < length xs = subst (λ n. j < n) (length-set xs k d) lt_set in
+    slice_get-get_or xs j c lt ∙ ap (λ (v : ℕ). Some v) (sym (get_or-set_other xs k j d c other) ∙ get_or_from_slice_get (set xs k d) j c c is)
+
+get-set_same : (xs : List ℕ) (k c d : ℕ) → slice_get (set xs k d) k ≡ Some c → c ≡ d
+get-set_same xs k c d is =
+    let lt_set : k < length (set xs k d) = slice_get_within (set xs k d) k c is in
+    let lt : k < length xs = subst (λ n. k < n) (length-set xs k d) lt_set in
+    sym (get_or_from_slice_get (set xs k d) k c c is) ∙ get_or-set_same xs k d c lt
+
+-- a record moves its port's cursor to the port's next record
+pub Cursors-record : (s : Scenario) (entries : List Entry) (cursors : List ℕ) (e : Entry) (k c next : ℕ) (r : Record) → AreCursors s entries cursors → slice_get cursors k ≡ Some c → slice_get s.records c ≡ Some r
+    → e.input ≡ input_of (k + 1) r.tick r.what → IsNextOf s.records (k + 1) (c + 1) next → AreCursors s (e ∷ entries) (set cursors k next)
+Cursors-record s entries cursors e k c next r at there is input n = λ j d now.
+    let by : is_record_of (j + 1) e.input ≡ eqb (k + 1) (j + 1) = ap (λ (i : Input). is_record_of (j + 1) i) input ∙ record-happening (j + 1) (k + 1) r.tick r.what in
+    elim (eqb_tells j k) [
+      | inl same ↦
+          let one : is_record_of (j + 1) e.input ≡ true = by ∙ eq-eqb (k + 1) (j + 1) (omega (arith, same.1)) in
+          let moved : IsCursor s.records (j + 1) (taken_by (j + 1) entries + 1) next =
+          subst (λ i. IsCursor s.records (i + 1) (taken_by (i + 1) entries + 1) next) (sym same.1) (Cursor-next s.records (k + 1) (taken_by (k + 1) entries) c next r (at k c there) is n) in
+          let here : d ≡ next = get-set_same cursors k d next (subst (λ i. slice_get (set cursors k next) i ≡ Some d) same.1 now) in
+          subst (λ x. IsCursor s.records (j + 1) (taken_by (j + 1) (e ∷ entries)) x) (sym here)
+          (subst (λ m. IsCursor s.records (j + 1) m next) (sym (taken-one (j + 1) e entries one)) moved)
+      | inr differ ↦
+          let none : is_record_of (j + 1) e.input ≡ false = by ∙ ne_eqb (k + 1) (j + 1) (λ q. differ.1 (omega (arith, q))) in
+          subst (λ m. IsCursor s.records (j + 1) m d) (sym (taken-other (j + 1) e entries none)) (at j d (get-set cursors k j d next now differ.1))
+    ]

@@ -1,0 +1,6 @@
+use Rattle.bc_top.specs.Ticks.{IsTickAt}
+use Rattle.bc_top.proofs.Best.{BestBelow}
+use Rattle.bc_top.proofs.due.first_due.Given as goal
+
+abbrev pub invariant-loop-i : goal.invariant-loop-i
+invariant-loop-i l = BestBelow (IsTickAt l.ticks l.duration) l.i l.best

@@ -1,0 +1,86 @@
+ghost use Rattle.std.specs.Prelude.{◌≡◌, ℕ, List, [], ◌++◌, OnOk, IfOk, string_bytes};
+ghost use Rattle.std.specs.Fmt.{AppendsText};
+ghost use Rattle.hex.specs.Hex.{encode_lower};
+
+use ptp_base::{NoMemory, Octets};
+use std::alloc::Global;
+use std::fmt;
+use std::fmt::Write;
+use std::marker::Model;
+
+/// A text in the making, which contracts see as its octets so far. Where an addition finds no
+/// memory, a part of what was to be added may stand at the end.
+#[derive(Drop)]
+pub struct Writer {
+    alloc: Global,
+    text: Octets,
+}
+
+impl Model for Writer {
+    ghost Value = { List ℕ };
+
+    ghost view = { λ w. w.text };
+}
+
+impl Writer {
+    /// The empty text.
+    pub fn new(alloc: Global) -> Writer
+        ensures { result ≡ [] }
+    {
+        Writer {
+            alloc,
+            text: Octets::new(alloc),
+        }
+    }
+
+    /// The whole text, which takes no memory.
+    pub fn into_octets(self) -> Octets
+        ensures { result ≡ self }
+    {
+        let Writer { text, .. } = self;
+        text
+    }
+
+    /// Adds octets as they are.
+    pub fn octets(&mut self, octets: &[u8]) -> Result<(), NoMemory>
+        ensures { OnOk result (self.new ≡ self.old ++ octets.now) }
+    {
+        self.text.append(octets)
+    }
+
+    /// Adds two lower-case hex digits for each octet.
+    pub fn hex(&mut self, octets: &[u8]) -> Result<(), NoMemory>
+        ensures { OnOk result (self.new ≡ self.old ++ encode_lower octets.now) }
+    {
+        let digits = self.digits(octets)?;
+        self.text.append(digits.as_bytes())
+    }
+
+    /// Two lower-case hex digits for each octet.
+    pub fn digits(&self, octets: &[u8]) -> Result<String, NoMemory>
+        ensures { IfOk result (λ digits. string_bytes digits ≡ encode_lower octets.now) }
+    {
+        Ok(hex::encode(self.alloc, octets)?)
+    }
+
+    /// Adds a format: what `write!` calls.
+    pub fn write_fmt<D: fmt::Display + Drop>(&mut self, format: D) -> Result<(), NoMemory>
+        ensures { OnOk result (AppendsText self.old self.new (D.output format)) }
+    {
+        match self.write(format) {
+            Ok(()) => Ok(()),
+            Err(_) => Err(NoMemory),
+        }
+    }
+}
+
+impl Write for Writer {
+    ghost write_str_gives = { λ old added new. new ≡ old ++ added };
+
+    fn write_str(&mut self, piece: &str) -> fmt::Result {
+        match self.octets(piece.as_bytes()) {
+            Ok(()) => Ok(()),
+            Err(_) => Err(fmt::Error),
+        }
+    }
+}

@@ -1,0 +1,162 @@
+-- Answers can be printed, and those of ports come one by one.
+use Rattle.std.proofs.Common.{◌≡◌, ℕ, suc, ◌+◌, ◌<◌, ◌≤◌, List, [], ◌∷◌, ◌++◌, length, take, drop, get_or, map, refl, sym, ap, subst, ◌∙◌, arith, append-nil, append_assoc, Bool, true, false, cond, lit≤, add-one, drop-cons}
+use Rattle.std.proofs.lemmas.Bool.Decides.{nat_tests}
+use Rattle.std.proofs.lemmas.List.{length-append}
+use Rattle.std.proofs.lemmas.List.Folds.{list_all-append}
+use Rattle.std.specs.List.{list_all}
+use Rattle.std.specs.Prelude.{IsTrue, slice_index, Option, Some, None, nat_le, filter, ◌==◌, ◌&&◌, ◌||◌}
+use Rattle.byteorder.specs.Endian.{big_bytes}
+use Rattle.byteorder.specs.Numbers.{length-bytes_high_first}
+use Rattle.ptp_base.specs.declared.port.PortState.{PortState}
+use Rattle.ptp_base.specs.declared.port.PortState.TheVariants.{Initializing, Faulty, Disabled, Listening, PreMaster, Master, Passive, Uncalibrated, Slave}
+use Rattle.data_sets.specs.declared.port_set.PortSet.{PortSet}
+use Rattle.ptp_profile.specs.declared.management.Action.TheVariants.{Response}
+use Rattle.ptp_profile.specs.declared.management.Managed.{Managed}
+use Rattle.ptp_profile.specs.declared.management.Tlv.TheVariants.{Management}
+use Rattle.ptp_profile.specs.declared.management.Field.{Field}
+use Rattle.ptp_profile.specs.declared.management.ManagementId.{ManagementId}
+use Rattle.ptp_profile.specs.declared.management.ManagementId.TheVariants.{NullManagement, DefaultDataSet, CurrentDataSet, ParentDataSet, TimePropertiesDataSet, PortDataSet, Priority1, Priority2, Domain}
+use Rattle.ptp_profile.specs.Management.{managed_octets, managed_read}
+use Rattle.ptp_profile.specs.Fields.{fields_octets, id_fields, id_number, id_numbered, shape_of, state_number, width_of}
+use Rattle.ptp_profile.specs.Queries.{AnsweringPort, AnsweringSets, all_ports, can_show, clock_values, has_state, is_known, is_of_ports, message_shows, port_value, port_values, response_to, shows}
+use Rattle.pmc_query.specs.Sets.{answering_port}
+
+-- ---- how many octets and values there are
+
+pub length-fields : (fields : List Field) (values : List ℕ) → length values ≡ length fields → length (fields_octets fields values) ≡ width_of fields
+length-fields [] values e = refl
+length-fields (field ∷ fields) [] e = absurd (omega arith)
+length-fields (field ∷ fields) (value ∷ values) e =
+    let same : length values ≡ length fields = omega arith in
+    let rest = length-fields fields values same in
+    omega (arith, length-append (big_bytes (shape_of field).width value) (fields_octets fields values), length-bytes_high_first (shape_of field).width value, rest)
+
+pub width_most : (id : ManagementId) → width_of (id_fields id) ≤ 32
+width_most NullManagement = lit≤ tt
+width_most DefaultDataSet = lit≤ tt
+width_most CurrentDataSet = lit≤ tt
+width_most ParentDataSet = lit≤ tt
+width_most TimePropertiesDataSet = lit≤ tt
+width_most PortDataSet = lit≤ tt
+width_most Priority1 = lit≤ tt
+width_most Priority2 = lit≤ tt
+width_most Domain = lit≤ tt
+
+pub clock_long : (d : AnsweringSets) (id : ManagementId) → is_of_ports id ≡ false → length (clock_values d id) ≡ length (id_fields id)
+clock_long d NullManagement e = refl
+clock_long d DefaultDataSet e = refl
+clock_long d CurrentDataSet e = refl
+clock_long d ParentDataSet e = refl
+clock_long d TimePropertiesDataSet e = refl
+clock_long d PortDataSet e = cc
+clock_long d Priority1 e = refl
+clock_long d Priority2 e = refl
+clock_long d Domain e = refl
+
+pub clock_state : (id : ManagementId) (octets : List ℕ) → is_of_ports id ≡ false → IsTrue (has_state id octets)
+clock_state NullManagement octets e = refl
+clock_state DefaultDataSet octets e = refl
+clock_state CurrentDataSet octets e = refl
+clock_state ParentDataSet octets e = refl
+clock_state TimePropertiesDataSet octets e = refl
+clock_state PortDataSet octets e = cc
+clock_state Priority1 octets e = refl
+clock_state Priority2 octets e = refl
+clock_state Domain octets e = refl
+
+state_of : (s : PortState) → (nat_le 1 (state_number s / 1 % 256) && nat_le (state_number s / 1 % 256) 9) ≡ true
+state_of Initializing = refl
+state_of Faulty = refl
+state_of Disabled = refl
+state_of Listening = refl
+state_of PreMaster = refl
+state_of Master = refl
+state_of Passive = refl
+state_of Uncalibrated = refl
+state_of Slave = refl
+
+pub port_state : (p : AnsweringPort) → IsTrue (has_state PortDataSet (fields_octets (id_fields PortDataSet) (port_values p)))
+port_state p = state_of p.state
+
+-- ---- what an answer shows
+
+numbered_back : (id : ManagementId) → id_numbered (id_number id) ≡ Some id
+numbered_back NullManagement = refl
+numbered_back DefaultDataSet = refl
+numbered_back CurrentDataSet = refl
+numbered_back ParentDataSet = refl
+numbered_back TimePropertiesDataSet = refl
+numbered_back PortDataSet = refl
+numbered_back Priority1 = refl
+numbered_back Priority2 = refl
+numbered_back Domain = refl
+
+both : (n k : ℕ) (b : Bool) → n ≡ k → b ≡ true → ((n == k) && b) ≡ true
+both n k true e h = grind (arith, nat_tests)
+both n k false e h = cc
+
+pub response_shows : (id : ManagementId) (values : List ℕ) → length values ≡ length (id_fields id) → IsTrue (has_state id (fields_octets (id_fields id) values))
+    → IsTrue (can_show Response (Management (id_number id) (fields_octets (id_fields id) values)))
+response_shows id values same state =
+    let known : IsTrue (is_known (Some id) (fields_octets (id_fields id) values)) =
+    both (length (fields_octets (id_fields id) values)) (width_of (id_fields id)) (has_state id (fields_octets (id_fields id) values)) (length-fields (id_fields id) values same) state in
+    let P : Option ManagementId → Type 0 = λ o. IsTrue (is_known o (fields_octets (id_fields id) values)) in
+    subst P (sym (numbered_back id)) known
+
+pub response_short : (id : ManagementId) (values : List ℕ) → length values ≡ length (id_fields id) → length (fields_octets (id_fields id) values) ≤ 65481
+response_short id values same = omega (arith, length-fields (id_fields id) values same, width_most id)
+
+octet_is : (domain : ℕ) (m : Managed) → slice_index (managed_octets domain m) 4 ≡ domain
+unfolding managed_octets
+octet_is domain m = refl
+
+pub answer_shows : (domain : ℕ) (m : Managed) → managed_read domain (managed_octets domain m ++ []) ≡ Some m → IsTrue (can_show m.action m.tlv)
+    → IsTrue (shows (managed_octets domain m))
+unfolding shows
+answer_shows domain m again h =
+    let read : managed_read domain (managed_octets domain m) ≡ Some m = ap (managed_read domain) (sym (append-nil (managed_octets domain m))) ∙ again in
+    let itself : managed_read (slice_index (managed_octets domain m) 4) (managed_octets domain m) ≡ Some m =
+    ap (λ (k : ℕ). managed_read k (managed_octets domain m)) (octet_is domain m) ∙ read in
+    let P : Option Managed → Type 0 = λ o. IsTrue (message_shows o) in
+    subst P (sym itself) h
+
+pub all_pushed : (made : List (List ℕ)) (x : List ℕ) → IsTrue (list_all shows made) → IsTrue (shows x) → IsTrue (list_all shows (made ++ x ∷ []))
+all_pushed made x h k = list_all-append shows made (x ∷ []) ∙ two (list_all shows made) (shows x) h k
+  where
+    two : (a b : Bool) → a ≡ true → b ≡ true → (a && (b && true)) ≡ true
+    two a b p q = λ i. p i && (q i && true)
+
+-- ---- the answers of ports
+
+-- of these ports
+abbrev pub ports_answers : AnsweringSets → Managed → List PortSet → List (List ℕ)
+ports_answers d r ports =
+    map (managed_octets d.domain)
+    (map (λ p. response_to d r p.id.port PortDataSet (port_values p)) (filter (λ p. (r.target.port == all_ports) || (r.target.port == p.id.port)) (map answering_port ports)))
+
+abbrev pub port_answer : AnsweringSets → Managed → PortSet → List ℕ
+port_answer d r p = managed_octets d.domain (response_to d r p.id.port PortDataSet (port_values (answering_port p)))
+
+
+next_port : (d : AnsweringSets) (r : Managed) (p : PortSet) (ports : List PortSet) (t : Bool) → ((r.target.port == all_ports) || (r.target.port == p.id.port)) ≡ t
+    → ports_answers d r (p ∷ ports) ≡ cond t (port_answer d r p ∷ ports_answers d r ports) (ports_answers d r ports)
+next_port d r p ports true e = rw e refl
+next_port d r p ports false e = rw e refl
+
+pub port_answers : (d : AnsweringSets) (r : Managed) (ports : List PortSet) (i : ℕ) (p : PortSet) (made new whole : List (List ℕ)) → i < length ports
+    → made ++ ports_answers d r (drop i ports) ≡ whole → ((r.target.port == all_ports) || (r.target.port == (get_or ports i p).id.port)) ≡ true
+    → new ≡ made ++ port_answer d r (get_or ports i p) ∷ [] → new ++ ports_answers d r (drop (i + 1) ports) ≡ whole
+port_answers d r ports i p made new whole lt so asked is =
+    let split : drop i ports ≡ get_or ports i p ∷ drop (i + 1) ports = rw add-one (drop-cons ports i p lt) in
+    let next = next_port d r (get_or ports i p) (drop (i + 1) ports) true asked in
+    ap (λ (l : List (List ℕ)). l ++ ports_answers d r (drop (i + 1) ports)) is
+    ∙ append_assoc made (port_answer d r (get_or ports i p) ∷ []) (ports_answers d r (drop (i + 1) ports))
+    ∙ ap (λ (l : List (List ℕ)). made ++ l) (sym next ∙ ap (ports_answers d r) (sym split)) ∙ so
+
+pub port_passed : (d : AnsweringSets) (r : Managed) (ports : List PortSet) (i : ℕ) (p : PortSet) (made whole : List (List ℕ)) → i < length ports
+    → made ++ ports_answers d r (drop i ports) ≡ whole → ((r.target.port == all_ports) || (r.target.port == (get_or ports i p).id.port)) ≡ false
+    → made ++ ports_answers d r (drop (i + 1) ports) ≡ whole
+port_passed d r ports i p made whole lt so asked =
+    let split : drop i ports ≡ get_or ports i p ∷ drop (i + 1) ports = rw add-one (drop-cons ports i p lt) in
+    let next = next_port d r (get_or ports i p) (drop (i + 1) ports) false asked in
+    ap (λ (l : List (List ℕ)). made ++ l) (sym next ∙ ap (ports_answers d r) (sym split)) ∙ so

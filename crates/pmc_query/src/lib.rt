@@ -1,0 +1,18 @@
+//! Management queries: what a text asks, what the data sets answer, and how answers are printed.
+#![tactic(auto)]
+
+mod answering;
+mod asking;
+mod forms;
+mod printing;
+mod showing;
+mod values;
+
+pub use answering::answer;
+pub use asking::{ask, spell};
+pub use printing::print;
+pub use ptp_profile::management::{Answers, AskError, Request};
+pub use showing::shows;
+
+#[cfg(test)]
+mod tests;

@@ -1,0 +1,5 @@
+pub mod Sending
+pub mod States
+pub mod Flags
+pub mod Lengths
+pub mod Timing

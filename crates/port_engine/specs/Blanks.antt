@@ -1,0 +1,19 @@
+-- Frames that are still to be written.
+use Rattle.std.specs.Prelude.{◌≡◌, ℕ, ⊤, []}
+use Rattle.ptp_base.specs.Room.{Reserved}
+use Rattle.port_engine.specs.declared.blanks.Blanks.{Blanks}
+use Rattle.port_engine.specs.declared.blanks.Blanks.TheVariants.{Empty, One, Two}
+
+abbrev pub count_of : Blanks → ℕ
+count_of Empty = 0
+count_of (One frame) = 1
+count_of (Two frame next) = 2
+
+-- nothing is written, and the longest message has a place: 64 octets (13.5)
+abbrev pub IsBlank : Reserved ℕ → Type 0
+IsBlank frame = frame ≡ record { items = []; spare = 64 }
+
+abbrev pub AreBlank : Blanks → Type 0
+AreBlank Empty = ⊤
+AreBlank (One frame) = IsBlank frame
+AreBlank (Two frame next) = IsBlank frame × IsBlank next

@@ -1,0 +1,124 @@
+ghost use Rattle.std.specs.Prelude.{◌≡◌, ◌==◌, ◌≤◌, ℕ};
+ghost use Rattle.ptp_base.specs.declared.number.TheConstants.{TICK_MAX};
+ghost use Rattle.ptp_profile.specs.Machine.{next, is_following, state_number};
+ghost use Rattle.ptp_profile.specs.Port.{Port, after_event, entered, uncalibrated, gets_parent, renewed, cleared};
+ghost use Rattle.port_engine.specs.Engine.{IsEngineOf};
+
+use crate::engine::PortEngine;
+use crate::intervals::{following, qualifying, sending, waiting};
+use port_fsm::{PortEvent, Timers};
+use ptp_base::{Code, PortState};
+
+/// UNCALIBRATED and SLAVE take their time from a parent.
+pub(crate) fn is_following(state: PortState) -> bool
+    ensures { result ≡ is_following state }
+{
+    matches!(state, PortState::Uncalibrated | PortState::Slave)
+}
+
+/// By S1 with a new parent a port that follows already is to follow another one.
+fn gets_parent(cause: PortEvent, new_parent: bool, state: PortState) -> bool
+    ensures { result ≡ gets_parent cause new_parent state }
+{
+    new_parent && matches!(cause, PortEvent::Decided(Code::S1)) && is_following(state)
+}
+
+fn is_same(a: PortState, b: PortState) -> bool
+    ensures { result ≡ (state_number a == state_number b) }
+{
+    a == b
+}
+
+impl PortEngine {
+    /// Another state, and the timers as they are.
+    fn set_state(&mut self, state: PortState)
+        ensures { (length : ℕ) (p : Port) → IsEngineOf length self.old p → IsEngineOf length self.new (record p { state = state }) }
+    {
+        self.state = state;
+    }
+
+    /// Another state, and other timers.
+    fn set(&mut self, state: PortState, timers: Timers)
+        ensures { (length : ℕ) (p : Port) → IsEngineOf length self.old p
+            → IsEngineOf length self.new (record p { state = state; timers = timers }) }
+    {
+        self.state = state;
+        self.timers = timers;
+    }
+
+    /// UNCALIBRATED: by a decision the port begins to follow, by a synchronization fault it goes on.
+    fn enter_uncalibrated(&mut self, cause: PortEvent, moment: u64)
+        requires { moment ≤ TICK_MAX }
+        ensures { (length : ℕ) (p : Port) → IsEngineOf length self.old p → IsEngineOf length self.new (uncalibrated moment cause p) }
+    {
+        match cause {
+            PortEvent::Decided(_) => {
+                let timers = following(&self.conf, moment);
+                self.clear();
+                self.set(PortState::Uncalibrated, timers);
+            }
+            _ => self.set_state(PortState::Uncalibrated),
+        }
+    }
+
+    /// Another state than the one before.
+    fn enter_state(&mut self, new: PortState, cause: PortEvent, moment: u64, steps: u16)
+        requires { moment ≤ TICK_MAX }
+        ensures { (length : ℕ) (p : Port) → IsEngineOf length self.old p → IsEngineOf length self.new (entered moment steps cause new p) }
+    {
+        match new {
+            PortState::Uncalibrated => self.enter_uncalibrated(cause, moment),
+            PortState::Listening | PortState::Passive => {
+                let timers = waiting(&self.conf, moment);
+                self.set(new, timers);
+            }
+            PortState::PreMaster => {
+                let timers = qualifying(&self.conf, moment, steps, cause);
+                self.set(new, timers);
+            }
+            PortState::Master => {
+                let timers = sending(&self.conf, moment);
+                self.set(new, timers);
+            }
+            PortState::Faulty => self.set(new, Timers::none()),
+            PortState::Slave | PortState::Initializing | PortState::Disabled => {
+                self.set_state(new);
+            }
+        }
+    }
+
+    /// S1 with a new parent, where the port follows already.
+    fn follow_another(&mut self, moment: u64)
+        requires { moment ≤ TICK_MAX }
+        ensures { (length : ℕ) (p : Port) → IsEngineOf length self.old p
+            → IsEngineOf length self.new (renewed moment (record (cleared p) { state = PortState.Uncalibrated })) }
+    {
+        self.clear();
+        self.set_state(PortState::Uncalibrated);
+        self.renew(moment);
+    }
+
+    /// Enters the state `new`, which is what `next` gives for the port's state, the event `cause` and
+    /// `new_parent`, at `moment`, at most `TICK_MAX`, with `steps` to the grandmaster. Where that is
+    /// the state that the port has, nothing is entered; but S1 with a new parent, where the port
+    /// follows already, sets announce receipt anew and clears pairing and delays. Takes no memory.
+    pub fn enter(
+        &mut self,
+        new: PortState,
+        cause: PortEvent,
+        new_parent: bool,
+        moment: u64,
+        steps: u16,
+    )
+        requires next { new ≡ next self.old.state cause new_parent }
+        requires early { moment ≤ TICK_MAX }
+        ensures { (length : ℕ) (p : Port) → IsEngineOf length self.old p
+            → IsEngineOf length self.new (after_event moment steps cause new_parent p) }
+    {
+        if gets_parent(cause, new_parent, self.state) {
+            self.follow_another(moment);
+        } else if !is_same(new, self.state) {
+            self.enter_state(new, cause, moment, steps);
+        }
+    }
+}
