@@ -28,7 +28,7 @@ codes-from n o own best m p [] [] of all = refl
 codes-from n o own best m p [] (h ∷ hs) of all = absurd all
 codes-from n o own best m p (q ∷ qs) [] of all = absurd all
 codes-from n o own best m p (q ∷ qs) (h ∷ hs) of all =
-    let number : p ≡ h.port.id.port = ap (λ (id : PortId). id.port) (sym of.0.id ∙ all.0.engine.id) in
+    let number : p ≡ h.port.id.port = ap (λ (id : PortId). id.port) (sym of.0 ∙ all.0.receiver) in
     let rest = codes-from n o own best m (p + 1) qs hs of.1 all.1 in
     let later : List Code = map (λ (port : ℕ × PortBest). code_of own best port.0 port.1.state port.1.best) (enumerate_from (p + 1) (port_bests m hs)) in
     ap (λ (k : ℕ). code_of own best k h.port.state (best_of m h) ∷ later) number ∙ ap (λ (xs : List Code). code_with own m best h ∷ xs) rest

@@ -30,28 +30,31 @@ use Rattle.foreign_master.specs.Places.{IsReached}
 use Rattle.bc_history.specs.Own.{announcement_of, message_fate, with_message, read_fate, frame_fate, frame_measure, with_frame}
 use Rattle.bc_history.specs.Effects.{is_answered}
 use Rattle.bc_history.specs.State.{HubPort}
-use Rattle.hub_core.specs.Engine.{IsOther, responses}
-use Rattle.hub_core.specs.Taking.{answered}
+use Rattle.port_engine.specs.Engine.{IsEngineOf, frames_for}
+use Rattle.ptp_profile.specs.Frames.{delay_response_by}
+use Rattle.bc_history.proofs.Following.{Alike, timing_alike}
+use Rattle.hub_core.proofs.Keepings.{keeps-engine}
+use Rattle.hub_core.specs.Taking.{answered, IsOther}
 use Rattle.hub_core.specs.Standing.{IsPort, StandsFor}
 use Rattle.hub_core.specs.declared.port.PortNow.{PortNow}
 
-pub fate-heard : (m : ℕ) (parent : PortId) (message : Message) (seen origin : ℤ) (said : Said) (h : HubPort) (id : PortId) (conf : PortConf) (w : ℕ) (heard : Heard) (fate : Fate) (a : Announcement)
-    → message.body ≡ Announce origin said → id ≡ h.port.id → conf ≡ h.port.conf → w ≡ window_of conf → a ≡ announcement_of id message said
+pub fate-heard : (m : ℕ) (parent : PortId) (message : Message) (seen origin : ℤ) (said : Said) (h : HubPort) (id : PortId) (w : ℕ) (heard : Heard) (fate : Fate) (a : Announcement)
+    → message.body ≡ Announce origin said → id ≡ h.port.id → w ≡ window_of h.port.conf → a ≡ announcement_of id message said
     → heard ≡ hearing_of w m h.kept a → fate ≡ fate_of_hearing heard → fate ≡ message_fate m parent message seen h message.body
-fate-heard m parent message seen origin said h id conf w heard fate a body id_is conf_is w_is a_is heard_is fate_is =
-    rw (body, fate_is, heard_is, a_is, w_is, conf_is, id_is) refl
+fate-heard m parent message seen origin said h id w heard fate a body id_is w_is a_is heard_is fate_is =
+    rw (body, fate_is, heard_is, a_is, w_is, id_is) refl
 
 pub stands-heard : (length m : ℕ) (q q' : PortNow) (h : HubPort) (message : Message) (seen origin : ℤ) (said : Said) (heard : Heard) (a : Announcement)
     → message.body ≡ Announce origin said → a ≡ announcement_of h.port.id message said → StandsFor length m q h → q'.engine ≡ q.engine
-    → (heard ≡ Heard_kept → Remembers q'.records (record { at = m; said = a } ∷ h.kept)) → (heard ≢ Heard_kept → q'.records ≡ q.records)
+    → (heard ≡ Heard_kept → Remembers q'.records (record { at = m; said = a } ∷ h.kept)) → (heard ≢ Heard_kept → q'.records ≡ q.records) → q'.records.window ≡ q.records.window → q'.records.receiver ≡ q.records.receiver
     → StandsFor length m q' (with_message m message seen (fate_of_hearing heard) h)
-stands-heard length m q q' h message seen origin said Heard_kept a body a_is s engine kept same =
+stands-heard length m q q' h message seen origin said Heard_kept a body a_is s engine kept same w r =
     let newest : List KeptAnnounce = record { at = m; said = announcement_of h.port.id message said } ∷ h.kept in
-    rw body (record { engine = rw engine s.engine; records = rw (← a_is) (kept refl); reached = All-cons (λ (k : KeptAnnounce). k.at ≤ m) _ h.kept (omega arith) s.reached })
-stands-heard length m q q' h message seen origin said Heard_own a body a_is s engine kept same = record { engine = rw engine s.engine; records = rw (same (λ e. cc)) s.records; reached = s.reached }
-stands-heard length m q q' h message seen origin said Heard_far a body a_is s engine kept same = record { engine = rw engine s.engine; records = rw (same (λ e. cc)) s.records; reached = s.reached }
-stands-heard length m q q' h message seen origin said Heard_alternate a body a_is s engine kept same = record { engine = rw engine s.engine; records = rw (same (λ e. cc)) s.records; reached = s.reached }
-stands-heard length m q q' h message seen origin said Heard_crowded a body a_is s engine kept same = record { engine = rw engine s.engine; records = rw (same (λ e. cc)) s.records; reached = s.reached }
+    rw body (record { engine = rw engine s.engine; records = rw (← a_is) (kept refl); reached = All-cons (λ (k : KeptAnnounce). k.at ≤ m) _ h.kept (omega arith) s.reached; window = w ∙ s.window; receiver = r ∙ s.receiver })
+stands-heard length m q q' h message seen origin said Heard_own a body a_is s engine kept same w r = record { engine = rw engine s.engine; records = rw (same (λ e. cc)) s.records; reached = s.reached; window = w ∙ s.window; receiver = r ∙ s.receiver }
+stands-heard length m q q' h message seen origin said Heard_far a body a_is s engine kept same w r = record { engine = rw engine s.engine; records = rw (same (λ e. cc)) s.records; reached = s.reached; window = w ∙ s.window; receiver = r ∙ s.receiver }
+stands-heard length m q q' h message seen origin said Heard_alternate a body a_is s engine kept same w r = record { engine = rw engine s.engine; records = rw (same (λ e. cc)) s.records; reached = s.reached; window = w ∙ s.window; receiver = r ∙ s.receiver }
+stands-heard length m q q' h message seen origin said Heard_crowded a body a_is s engine kept same w r = record { engine = rw engine s.engine; records = rw (same (λ e. cc)) s.records; reached = s.reached; window = w ∙ s.window; receiver = r ∙ s.receiver }
 
 -- a message that is no Announce is judged by the port alone
 pub message_fate-timing : (m : ℕ) (parent : PortId) (message : Message) (seen : ℤ) (h : HubPort) (body : Body) → IsOther body
@@ -85,6 +88,12 @@ timing_fate-other parent message seen p (DelayResp receive requesting) = matched
 timing_fate-other parent message seen p (Announce origin said) = λ e. cc
 
 -- what a frame that is not kept leaves
+pub keeps-timing : (length m : ℕ) (q q' : PortNow) (p : Port) (kept : List KeptAnnounce) (message : Message) (seen : ℤ) (fate : Fate) → q'.records ≡ q.records → IsPort length m q p kept
+    → IsEngineOf length q'.engine (after_timing message seen fate p) → IsPort length m q' (after_timing message seen fate p) kept
+keeps-timing length m q q' p kept message seen fate records s engine =
+    let same = timing_alike message seen fate p in
+    keeps-engine length m q q' p (after_timing message seen fate p) kept records same.id same.conf s engine
+
 pub stands-other : (length m : ℕ) (q : PortNow) (h : HubPort) (message : Message) (seen : ℤ) (fate : Fate) → fate ≢ Kept
     → IsPort length m q (after_timing message seen fate h.port) h.kept → StandsFor length m q (with_message m message seen fate h)
 stands-other length m q h message seen Asleep other s = s
@@ -102,7 +111,7 @@ stands-other length m q h message seen Unmatched other s = s
 stands-other length m q h message seen Answered other s = s
 
 -- what the engine answers is what the definitions of a history answer
-pub responses-answered : (message : Message) (seen : ℤ) (fate : Fate) (p : Port) → responses message seen fate p ≡ answered message.domain seen (Ok message) fate p
+pub responses-answered : (message : Message) (seen : ℤ) (fate : Fate) (p : Port) → frames_for fate (delay_response_by message.domain seen message p) ≡ answered message.domain seen (Ok message) fate p
 responses-answered message seen Asleep p = refl
 responses-answered message seen (Dropped reject) p = refl
 responses-answered message seen Own p = refl

@@ -1,4 +1,5 @@
 pub mod Items
+pub mod Keepings
 pub mod Frames
 pub mod Takings
 pub mod Standings

@@ -9,7 +9,7 @@ use Rattle.bc_history.specs.declared.scenario.Options.{Options}
 use Rattle.bc_history.specs.Inputs.{changed_at}
 use Rattle.bc_history.specs.Opening.{own_port}
 use Rattle.bc_history.specs.State.{HubPort}
-use Rattle.hub_core.specs.Standing.{StandsFor, AllStandFor, IsFitted, IsSamePort, IsPortOf, ArePortsOf}
+use Rattle.hub_core.specs.Standing.{StandsFor, AllStandFor, IsSamePort, IsPortOf, ArePortsOf}
 use Rattle.hub_core.specs.declared.port.PortNow.{PortNow}
 
 pub AllStandFor-length : (n m : ℕ) (qs : List PortNow) (hs : List HubPort) → AllStandFor n m qs hs → length qs ≡ length hs
@@ -20,7 +20,7 @@ AllStandFor-length n m (q ∷ qs) (h ∷ hs) all = ap suc (AllStandFor-length n 
 
 -- the kept Announces of each port are not later than a later moment
 pub StandsFor-later : (n m k : ℕ) (q : PortNow) (h : HubPort) → m ≤ k → StandsFor n m q h → StandsFor n k q h
-StandsFor-later n m k q h le s = record { engine = s.engine; records = s.records; reached = λ i x lt. let at = s.reached i x lt in omega arith }
+StandsFor-later n m k q h le s = record { engine = s.engine; records = s.records; reached = λ i x lt. let at = s.reached i x lt in omega arith; window = s.window; receiver = s.receiver }
 
 pub AllStandFor-later : (n m k : ℕ) (qs : List PortNow) (hs : List HubPort) → m ≤ k → AllStandFor n m qs hs → AllStandFor n k qs hs
 AllStandFor-later n m k [] [] le all = tt
@@ -101,23 +101,11 @@ ArePortsOf-get o p [] i q all lt is = absurd (omega arith)
 ArePortsOf-get o p (x ∷ qs) zero q all lt is = let at : 0 + p ≡ p = omega arith in rw (at, is) all.0
 ArePortsOf-get o p (x ∷ qs) (suc i) q all lt is = let at : i + (p + 1) ≡ suc i + p = omega arith in rw (← at) (ArePortsOf-get o (p + 1) qs i q all.1 (omega arith) is)
 
-IsPortOf-same : (o : Options) (p : ℕ) (q q' : PortNow) → IsSamePort q q' → IsPortOf o p q → IsPortOf o p q'
-IsPortOf-same o p q q' same of = record {
-  fitted = record { window = same.window ∙ (of.fitted.window ∙ ap (λ (conf : PortConf). window_of conf) (sym same.conf)); receiver = same.receiver ∙ (of.fitted.receiver ∙ sym same.id) };
-  id = same.id ∙ of.id;
-}
-
 pub ArePortsOf-set : (o : Options) (p : ℕ) (qs : List PortNow) (i : ℕ) (q q' : PortNow) → ArePortsOf o p qs → i < length qs → q ≡ get_or qs i q → IsSamePort q q' → ArePortsOf o p (set qs i q')
 ArePortsOf-set o p [] i q q' all lt is same = absurd (omega arith)
-ArePortsOf-set o p (x ∷ qs) zero q q' all lt is same = (IsPortOf-same o p q q' same (rw is all.0), all.1)
+ArePortsOf-set o p (x ∷ qs) zero q q' all lt is same = (same.receiver ∙ rw is all.0, all.1)
 ArePortsOf-set o p (x ∷ qs) (suc i) q q' all lt is same = (all.0, ArePortsOf-set o (p + 1) qs i q q' all.1 (omega arith) is same)
 
 pub ArePortsOf-push : (o : Options) (p : ℕ) (qs : List PortNow) (q : PortNow) → ArePortsOf o p qs → IsPortOf o (length qs + p) q → ArePortsOf o p (qs ++ q ∷ [])
 ArePortsOf-push o p [] q all one = let at : 0 + p ≡ p = omega arith in (rw (← at) one, tt)
 ArePortsOf-push o p (x ∷ qs) q all one = let at : length qs + (p + 1) ≡ suc (length qs) + p = omega arith in (all.0, ArePortsOf-push o (p + 1) qs q all.1 (rw at one))
-
--- the records of each port are those of its engine
-pub All-fitted : (o : Options) (p : ℕ) (qs : List PortNow) → ArePortsOf o p qs → All IsFitted qs
-All-fitted o p [] of k d lt = absurd (omega arith)
-All-fitted o p (q ∷ qs) of zero d lt = of.0.fitted
-All-fitted o p (q ∷ qs) of (suc k) d lt = All-fitted o (p + 1) qs of.1 k d (omega arith)

@@ -1,6 +1,6 @@
 -- What a port makes of its inputs.
 use Rattle.std.proofs.Common.{◌≡◌, ◌≢◌, ℕ, ℤ, ◌≤◌, Bool, true, false, cond, eqb, refl, sym, ap, subst, ◌∙◌, List, [], ◌∷◌, ◌++◌, map, Option, Some, None, Result, Ok, Err}
-use Rattle.std.specs.Prelude.{IfOk}
+use Rattle.std.specs.Prelude.{IfOk, IsSomeAnd}
 use Rattle.std.proofs.lemmas.List.{append-nil}
 use Rattle.std.proofs.lemmas.Bool.{eq-eqb}
 use Rattle.ptp_base.specs.declared.identity.PortId.{PortId}
@@ -57,12 +57,12 @@ kept_sender m parent message seen h (Announce origin said) is = refl
 
 -- where a frame was kept, its sender is that of the newest kept Announce
 frame_sender : (m : ℕ) (parent : PortId) (read : Result Message Reject) (seen : ℤ) (h : HubPort) (sender : Option PortId) → IfOk read (λ (x : Message). sender ≡ Some x.sender)
-    → frame_fate m parent read seen h ≡ Kept → newest_sender (with_frame m parent read seen h).kept ≡ sender
+    → frame_fate m parent read seen h ≡ Kept → IsSomeAnd sender (λ (s : PortId). newest_sender (with_frame m parent read seen h).kept ≡ Some s)
 frame_sender m parent (Err r) seen h sender sent is = absurd (not_dropped (is_faulty h.port.state) r is)
 frame_sender m parent (Ok message) seen h sender sent is =
     let kept = kept_by (is_faulty h.port.state) (eqb message.sender.clock.id h.port.id.clock.id) (message_fate m parent message seen h message.body) is in
     let P : Fate → Type 0 = λ f. newest_sender (with_message m message seen f h).kept ≡ Some message.sender in
-    subst P (sym is) (kept_sender m parent message seen h message.body kept) ∙ sym sent
+    rw sent (subst P (sym is) (kept_sender m parent message seen h message.body kept))
 
 -- ---- a frame
 

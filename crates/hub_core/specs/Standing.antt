@@ -10,7 +10,7 @@ use Rattle.data_sets.specs.Masters.{master_in}
 use Rattle.bc_history.specs.declared.scenario.Options.{Options}
 use Rattle.bc_history.specs.State.{HubPort, Core}
 use Rattle.bc_history.specs.Opening.{own_of, own_port}
-use Rattle.hub_core.specs.Engine.{IsEngineOf}
+use Rattle.port_engine.specs.Engine.{IsEngineOf}
 use Rattle.hub_core.specs.declared.port.PortNow.{PortNow}
 use Rattle.hub_core.specs.declared.now.Now.{Now}
 
@@ -20,6 +20,8 @@ pub record IsPort (length m : ℕ) (q : PortNow) (port : Port) (kept : List Kept
   pub engine : IsEngineOf length q.engine port
   pub records : Remembers q.records kept
   pub reached : IsReached m kept
+  pub window : q.records.window ≡ window_of port.conf
+  pub receiver : q.records.receiver ≡ port.id
 
 abbrev pub StandsFor : ℕ → ℕ → PortNow → HubPort → Type 0
 StandsFor length m q h = IsPort length m q h.port h.kept
@@ -31,22 +33,14 @@ AllStandFor length m (q ∷ qs) (h ∷ hs) = StandsFor length m q h × AllStandF
 AllStandFor length m [] (h ∷ hs) = ⊥
 AllStandFor length m (q ∷ qs) [] = ⊥
 
--- the records are those of the engine's port
-pub record IsFitted (q : PortNow) : Type 0 where
-  pub window : q.records.window ≡ window_of q.engine.conf
-  pub receiver : q.records.receiver ≡ q.engine.id
-
 -- what never changes in a port
 pub record IsSamePort (old new : PortNow) : Type 0 where
-  pub id : new.engine.id ≡ old.engine.id
-  pub conf : new.engine.conf ≡ old.engine.conf
   pub window : new.records.window ≡ old.records.window
   pub receiver : new.records.receiver ≡ old.records.receiver
 
 -- a port of the scenario, by its number
-pub record IsPortOf (o : Options) (n : ℕ) (q : PortNow) : Type 0 where
-  pub fitted : IsFitted q
-  pub id : q.engine.id ≡ own_port o n
+abbrev pub IsPortOf : Options → ℕ → PortNow → Type 0
+IsPortOf o n q = q.records.receiver ≡ own_port o n
 
 -- the ports of the scenario, from number n on
 abbrev pub ArePortsOf : Options → ℕ → List PortNow → Type 0

@@ -1,5 +1,5 @@
 -- What a port makes of an input.
-use Rattle.std.specs.Prelude.{◌≡◌, ◌≤◌, ℕ, ℤ, List, [], ◌++◌, map, Option, Some, None, Result, if◌then◌else◌}
+use Rattle.std.specs.Prelude.{◌≡◌, ◌≤◌, ℕ, ℤ, List, [], ◌++◌, map, Option, Some, None, IsSomeAnd, Result, if◌then◌else◌}
 use Rattle.ptp_profile.specs.declared.timing.Measure.{Measure}
 use Rattle.ptp_profile.specs.Timers.{timer_at}
 use Rattle.ptp_profile.specs.Roles.{Stamp}
@@ -16,6 +16,8 @@ use Rattle.hub_core.specs.declared.port.PortNow.{PortNow}
 use Rattle.hub_core.specs.declared.taking.Taken.{Taken}
 use Rattle.ptp_base.specs.declared.identity.PortId.{PortId}
 use Rattle.ptp_profile.specs.declared.message.Message.{Message}
+use Rattle.ptp_profile.specs.declared.message.Body.{Body}
+use Rattle.ptp_profile.specs.declared.message.Body.TheVariants.{Sync, DelayReq, FollowUp, DelayResp, Announce}
 use Rattle.ptp_profile.specs.declared.message.Reject.{Reject}
 use Rattle.ptp_profile.specs.declared.port.Fate.{Fate}
 use Rattle.ptp_profile.specs.declared.port.Fate.TheVariants.{Kept}
@@ -25,13 +27,21 @@ use Rattle.bc_history.specs.Deciding.{newest_sender}
 use Rattle.bc_history.specs.Effects.{is_answered, response, messages_by}
 use Rattle.bc_history.specs.State.{HubPort}
 
+-- a message that is no Announce
+abbrev pub IsOther : Body → Type 0
+IsOther (Sync origin) = Unit {0}
+IsOther (DelayReq origin) = Unit {0}
+IsOther (FollowUp precise) = Unit {0}
+IsOther (DelayResp receive requesting) = Unit {0}
+IsOther (Announce origin said) = ⊥
+
 -- the frames that a port sends for a frame of this fate
 abbrev pub answered : ℕ → ℤ → Result Message Reject → Fate → Port → List (List ℕ)
 answered domain seen read fate p = map written (if is_answered (Some fate) then response domain seen read p else [])
 
--- where an Announce was kept, the sender is that of the newest one
+-- where an Announce was kept, there is a sender, and it is that of the newest one
 abbrev pub IsSenderOf : Option Fate → Option PortId → HubPort → Type 0
-IsSenderOf fate sender h = fate ≡ Some Kept → newest_sender h.kept ≡ sender
+IsSenderOf fate sender h = fate ≡ Some Kept → IsSomeAnd sender (λ s. newest_sender h.kept ≡ Some s)
 
 -- an input that a port's own records and timers bring
 abbrev pub IsServed : Input → Type 0

@@ -1,3 +1,4 @@
+ghost use Rattle.ptp_base.specs.declared.number.TheConstants.{TICK_MAX};
 ghost use Rattle.std.specs.Prelude.{◌≡◌, ℕ, ◌≤◌, ◌<◌, List, [], map, length, All, fold, Option};
 ghost use Rattle.ptp_base.specs.declared.identity.PortId.{PortId};
 ghost use Rattle.ptp_base.specs.declared.announcement.Announcement.{Announcement};
@@ -7,7 +8,7 @@ ghost use Rattle.bc_history.specs.declared.scenario.Options.{Options};
 ghost use Rattle.bc_history.specs.Deciding.{is_new_parent, decided_port, code_with};
 ghost use Rattle.bc_history.specs.State.{HubPort};
 ghost use Rattle.bc_history.specs.Opening.{own_of};
-ghost use Rattle.hub_core.specs.Standing.{AllStandFor, ArePortsOf, IsFitted, IsClockOf};
+ghost use Rattle.hub_core.specs.Standing.{AllStandFor, ArePortsOf, IsClockOf};
 ghost use Rattle.hub_core.specs.Deciding.{IsNear, port_bests};
 
 use crate::port::PortNow;
@@ -17,7 +18,6 @@ use ptp_profile::PortBest;
 
 /// Adds the state of each port, and its Erbest (IEEE 1588-2019, 9.3.2).
 pub fn push_bests(ports: &[PortNow], moment: u64, out: &mut Room<PortBest>)
-    requires fitted { All IsFitted ports.now }
     requires empty { out.old.items ≡ [] }
     requires room { length ports.now ≤ out.old.spare }
     ensures bests { (n : ℕ) (hs : List HubPort) → AllStandFor n moment ports.now hs → out.new.items ≡ port_bests moment hs }
@@ -68,7 +68,7 @@ pub fn is_new_parent(best: &Option<Announcement>, parent: PortId) -> bool
 
 /// Each port takes its code.
 pub fn decide_ports(ports: &mut [PortNow], codes: &[Code], is_new: bool, moment: u64, steps: u16)
-    requires moment { moment ≤ 100000000000000 }
+    requires moment { moment ≤ TICK_MAX }
     requires same { length codes.now ≡ length ports.old }
     ensures stand { (n : ℕ) (own : Announcement) (best : Option Announcement) (parent : PortId) (hs : List HubPort)
         → is_new ≡ is_new_parent best parent → codes.now ≡ map (code_with own moment best) hs → AllStandFor n moment ports.old hs

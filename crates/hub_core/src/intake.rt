@@ -2,14 +2,13 @@ ghost use Rattle.std.specs.Prelude.{◌≡◌, ℕ, ℤ, pos, ◌≤◌, ◌≤�
 ghost use Rattle.ptp_profile.specs.Port.{timing_measure};
 ghost use Rattle.ptp_profile.specs.Foreign.{fate_of_hearing};
 ghost use Rattle.bc_history.specs.Effects.{is_answered};
-ghost use Rattle.hub_core.specs.Engine.{IsOther};
 ghost use Rattle.ptp_profile.specs.Wire.{IsSpelled};
 ghost use Rattle.bc_history.specs.Own.{announcement_of, message_fate, read_fate, frame_fate, with_message, with_frame, frame_measure};
 ghost use Rattle.bc_history.specs.State.{HubPort};
-ghost use Rattle.hub_core.specs.Standing.{StandsFor, IsFitted, IsSamePort};
-ghost use Rattle.hub_core.specs.Taking.{answered};
+ghost use Rattle.hub_core.specs.Standing.{StandsFor, IsSamePort};
+ghost use Rattle.hub_core.specs.Taking.{answered, IsOther};
 
-use crate::engine::Frames;
+use port_engine::Frames;
 use crate::port::PortNow;
 use ptp_base::{Announcement, PortId, PortState, TIME_MAX, TimeProps};
 use ptp_profile::{Body, Fate, Heard, Measure, Message, Reject, Said};
@@ -64,8 +63,7 @@ impl PortNow {
         origin: i64,
         said: &Said,
     ) -> Judged
-        requires fitted { IsFitted self.old }
-        requires id { id ≡ self.old.engine.id }
+        requires id { id ≡ self.old.records.receiver }
         requires body { message.now.body ≡ Body.Announce origin said.now }
         ensures fate { (length : ℕ) (parent : PortId) (seen : ℤ) (h : HubPort) → StandsFor length moment self.old h
             → result.fate ≡ message_fate moment parent message.now seen h message.now.body }
@@ -124,8 +122,7 @@ impl PortNow {
         message: &Message,
         frames: &mut Frames,
     ) -> Judged
-        requires fitted { IsFitted self.old }
-        requires id { id ≡ self.old.engine.id }
+        requires id { id ≡ self.old.records.receiver }
         requires spelled { IsSpelled message.now }
         requires early { pos 0 ≤ℤ seen.now }
         requires late { seen.now ≤ℤ TIME_MAX }
@@ -163,8 +160,7 @@ impl PortNow {
         read: &Result<Message, Reject>,
         frames: &mut Frames,
     ) -> Judged
-        requires fitted { IsFitted self.old }
-        requires id { id ≡ self.old.engine.id }
+        requires id { id ≡ self.old.records.receiver }
         requires spelled { IfOk read.now IsSpelled }
         requires early { pos 0 ≤ℤ seen.now }
         requires late { seen.now ≤ℤ TIME_MAX }

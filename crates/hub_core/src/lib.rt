@@ -3,7 +3,6 @@
 #![tactic(auto)]
 
 mod deciding;
-mod engine;
 mod inputs;
 mod intake;
 mod moves;

@@ -1,6 +1,10 @@
-ghost use Rattle.std.specs.Prelude.{◌≡◌, ℕ, ◌+◌, ◌*◌, ◌-◌, ◌<◌, ◌≤◌, List, length, ◌++◌};
+ghost use Rattle.std.specs.Prelude.{◌≡◌, ℕ, ◌+◌, ◌*◌, ◌-◌, ◌<◌, ◌≤◌, List, [], length, ◌++◌};
+ghost use Rattle.bc_history.specs.Generations.{states_of};
+ghost use Rattle.bc_history.specs.State.{HubPort};
+ghost use Rattle.hub_core.specs.Standing.{AllStandFor};
 ghost use Rattle.bc_history.specs.Effects.{moved, moves_from, changed_parent};
 
+use crate::port::PortNow;
 use bc_history::Moved;
 use ptp_base::{PortId, PortState, Room};
 
@@ -35,4 +39,16 @@ pub fn changed_parent(old: PortId, new: PortId) -> Option<PortId>
     ensures { result ≡ changed_parent old new }
 {
     if old == new { None } else { Some(new) }
+}
+
+/// Adds the states of the ports.
+pub fn push_states(ports: &[PortNow], out: &mut Room<PortState>)
+    requires empty { out.old.items ≡ [] }
+    requires room { length ports.now ≤ out.old.spare }
+    ensures length { length out.new.items ≡ length ports.now }
+    ensures states { (n m : ℕ) (hs : List HubPort) → AllStandFor n m ports.now hs → out.new.items ≡ states_of hs }
+{
+    for port in ports {
+        out.push(port.engine.state());
+    }
 }

@@ -1,12 +1,13 @@
+ghost use Rattle.ptp_base.specs.declared.number.TheConstants.{TICK_MAX};
 ghost use Rattle.std.specs.Prelude.{◌≡◌, ℕ, ◌≤◌, ◌<◌, Some, IfSome, IfOk, Option};
 ghost use Rattle.bc_history.specs.Own.{acted, reset_by};
 ghost use Rattle.bc_history.specs.Deciding.{best_of, renewed_by, newest_sender, is_sent_by};
 ghost use Rattle.bc_history.specs.State.{HubPort};
 ghost use Rattle.ptp_profile.specs.Port.{after_event};
 ghost use Rattle.ptp_profile.specs.Machine.{is_dependent};
-ghost use Rattle.hub_core.specs.Standing.{StandsFor, IsFitted, IsSamePort};
+ghost use Rattle.hub_core.specs.Standing.{StandsFor, IsSamePort};
 
-use crate::engine::PortEngine;
+use port_engine::PortEngine;
 use foreign_master::Records;
 use port_fsm::next;
 use ptp_base::{Announcement, Code, PortId, PortState};
@@ -37,7 +38,6 @@ fn is_dependent(state: PortState) -> bool
 impl PortNow {
     /// Erbest (IEEE 1588-2019, 9.3.2).
     pub fn best(&self, moment: u64) -> Option<Announcement>
-        requires { IsFitted self.now }
         ensures best { (length : ℕ) (h : HubPort) → StandsFor length moment self.now h → result ≡ best_of moment h }
         ensures near { IfSome result (λ a. a.steps < 255) }
     {
@@ -67,7 +67,7 @@ impl PortNow {
 
     /// The port's own event, with the steps of the data sets.
     pub fn act(&mut self, cause: PortEvent, moment: u64, steps: u16)
-        requires { moment ≤ 100000000000000 }
+        requires { moment ≤ TICK_MAX }
         ensures stands { (length : ℕ) (h : HubPort) → StandsFor length moment self.old h → StandsFor length moment self.new (acted moment steps (Some cause) (reset_by (Some cause) h)) }
         ensures same { IsSamePort self.old self.new }
     {
@@ -78,7 +78,7 @@ impl PortNow {
 
     /// The decision for the port.
     pub fn decide(&mut self, code: Code, is_new: bool, moment: u64, steps: u16)
-        requires { moment ≤ 100000000000000 }
+        requires { moment ≤ TICK_MAX }
         ensures stands { (length : ℕ) (h : HubPort) → StandsFor length moment self.old h → StandsFor length moment self.new (record h { port = after_event moment steps (PortEvent.Decided code) is_new h.port }) }
         ensures same { IsSamePort self.old self.new }
     {
@@ -89,8 +89,7 @@ impl PortNow {
 
     /// After a kept Announce of the sender and its decision.
     pub fn renew_heard(&mut self, moment: u64, sender: PortId)
-        requires fitted { IsFitted self.old }
-        requires moment { moment ≤ 100000000000000 }
+        requires moment { moment ≤ TICK_MAX }
         ensures stands { (length : ℕ) (h : HubPort) → StandsFor length moment self.old h → newest_sender h.kept ≡ Some sender → StandsFor length moment self.new (renewed_by moment h) }
         ensures same { IsSamePort self.old self.new }
     {

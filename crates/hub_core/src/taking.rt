@@ -1,3 +1,4 @@
+ghost use Rattle.ptp_base.specs.declared.number.TheConstants.{TICK_MAX};
 ghost use Rattle.std.specs.Prelude.{◌≡◌, ℕ, ℤ, pos, ◌≤◌, ◌<◌, ◌≤ℤ◌, ◌++◌, Some, None, Ok, IfOk, Option, map};
 ghost use Rattle.ptp_profile.specs.Timers.{timer_at};
 ghost use Rattle.ptp_profile.specs.Frames.{timer_messages};
@@ -8,10 +9,10 @@ ghost use Rattle.bc_history.specs.declared.scenario.Options.{Options};
 ghost use Rattle.bc_history.specs.Inputs.{value_of};
 ghost use Rattle.bc_history.specs.Own.{acted, reset_by, timer_event};
 ghost use Rattle.bc_history.specs.State.{HubPort};
-ghost use Rattle.hub_core.specs.Standing.{StandsFor, IsFitted, IsSamePort, IsClockOf};
+ghost use Rattle.hub_core.specs.Standing.{StandsFor, IsSamePort, IsClockOf};
 ghost use Rattle.hub_core.specs.Taking.{HasTaken, IsServed, IsReady};
 
-use crate::engine::Frames;
+use port_engine::Frames;
 use crate::port::PortNow;
 use bc_history::Input;
 use data_sets::DataSets;
@@ -52,8 +53,7 @@ impl PortNow {
         octets: &Octets,
         frames: &mut Frames,
     ) -> Taken
-        requires fitted { IsFitted self.old }
-        requires id { id ≡ self.old.engine.id }
+        requires id { id ≡ self.old.records.receiver }
         requires early { pos 0 ≤ℤ seen.now }
         requires late { seen.now ≤ℤ TIME_MAX }
         requires room { 2 ≤ frames.old.spare }
@@ -73,7 +73,7 @@ impl PortNow {
 
     /// The event that a timer is for its port, if it is one.
     fn expire(&mut self, timer: Timer, moment: u64, steps: u16)
-        requires { moment ≤ 100000000000000 }
+        requires { moment ≤ TICK_MAX }
         ensures stands { (length : ℕ) (h : HubPort) → StandsFor length moment self.old h
             → StandsFor length moment self.new (acted moment steps (timer_event timer) (reset_by (timer_event timer) h)) }
         ensures same { IsSamePort self.old self.new }
@@ -95,13 +95,13 @@ impl PortNow {
         timer: Timer,
         frames: &mut Frames,
     ) -> Taken
-        requires moment { moment ≤ 100000000000000 }
+        requires moment { moment ≤ TICK_MAX }
         requires early { pos 0 ≤ℤ seen.now }
         requires late { seen.now ≤ℤ TIME_MAX }
         requires room { 2 ≤ frames.old.spare }
         requires flags { sets.now.time.flags < 64 }
         requires set { timer_at self.old.engine.timers timer ≡ Some tick }
-        requires tick { tick ≤ 100000000000000 }
+        requires tick { tick ≤ TICK_MAX }
         ensures taken { (o : Options) (reading : Option Seen) (port : ℕ) (h : HubPort) → IsClockOf o sets.now → value_of reading ≡ seen.now
             → StandsFor o.delay_filter_length moment self.old h
             → HasTaken o moment sets.now reading (Input.Timed port tick timer) self.new frames.old.items frames.new.items result h }
@@ -125,9 +125,8 @@ impl PortNow {
         input: &Input,
         frames: &mut Frames,
     ) -> Taken
-        requires fitted { IsFitted self.old }
-        requires id { id ≡ self.old.engine.id }
-        requires moment { moment ≤ 100000000000000 }
+        requires id { id ≡ self.old.records.receiver }
+        requires moment { moment ≤ TICK_MAX }
         requires early { pos 0 ≤ℤ seen.now }
         requires late { seen.now ≤ℤ TIME_MAX }
         requires room { 2 ≤ frames.old.spare }

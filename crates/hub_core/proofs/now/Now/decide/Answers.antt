@@ -11,18 +11,12 @@ use Rattle.ptp_profile.specs.DataSets.{applied}
 use Rattle.data_sets.specs.Masters.{master_in}
 use Rattle.bc_history.specs.Deciding.{decided, best_among}
 use Rattle.bc_history.specs.Opening.{own_of}
-use Rattle.hub_core.specs.Standing.{IsFitted, AllStandFor, ArePortsOf, IsCoreOf}
+use Rattle.hub_core.specs.Standing.{AllStandFor, ArePortsOf, IsCoreOf}
 use Rattle.hub_core.specs.Deciding.{IsNear, port_bests}
 use Rattle.hub_core.specs.declared.port.PortNow.{PortNow}
 use Rattle.hub_core.proofs.Codes.{fold-has}
-use Rattle.hub_core.proofs.Standings.{All-fitted}
 use Rattle.hub_core.proofs.Decisions.{decided-core}
 use Rattle.hub_core.proofs.now.Now.decide.Goals as goal
-
-pub push_bests-requires-clause-fitted : goal.push_bests-requires-clause-fitted
-push_bests-requires-clause-fitted c =
-    let P : List PortNow → Type 0 = λ qs. All IsFitted qs in
-    subst P (sym c.deref.ensures.value) (All-fitted c.args.options.now 1 c.args.self.now.ports.items c.requires.of.ports)
 
 pub apply_codes-requires : goal.apply_codes-requires
 apply_codes-requires c =

@@ -28,19 +28,13 @@ returns-clause-of c = record {
   early = let tick = c.requires.there.tick in let before = c.requires.of.early in omega (arith, c.max-self.ensures, c.tick_of.ensures);
 }
 
-pub take-requires-clause-fitted : goal.take-requires-clause-fitted
-take-requires-clause-fitted c =
-    let there = c.requires.there.port c.in-Some.number (sym c.port_of.ensures ∙ c.in-Some.is) in
-    let lt : c.in-Some.number - 1 < length c.args.self.now.ports.items = omega (arith, there.0, there.1) in
-    (ArePortsOf-get c.args.options.now 1 c.args.self.now.ports.items (c.in-Some.number - 1) c.index_mut-port.result.now c.requires.of.ports lt c.index_mut-port.ensures.value).fitted
-
 pub take-requires-clause-id : goal.take-requires-clause-id
 take-requires-clause-id c =
     let there = c.requires.there.port c.in-Some.number (sym c.port_of.ensures ∙ c.in-Some.is) in
     let lt : c.in-Some.number - 1 < length c.args.self.now.ports.items = omega (arith, there.0, there.1) in
     let at : c.in-Some.number - 1 + 1 ≡ c.in-Some.number = omega (arith, there.0) in
     let of = ArePortsOf-get c.args.options.now 1 c.args.self.now.ports.items (c.in-Some.number - 1) c.index_mut-port.result.now c.requires.of.ports lt c.index_mut-port.ensures.value in
-    sym (of.id ∙ ap (λ (p : ℕ). own_port c.args.options.now p) at)
+    sym (of ∙ ap (λ (p : ℕ). own_port c.args.options.now p) at)
 
 pub take-requires-clause-ready : goal.take-requires-clause-ready
 take-requires-clause-ready c =

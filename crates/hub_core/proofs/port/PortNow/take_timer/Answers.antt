@@ -7,7 +7,9 @@ use Rattle.ptp_profile.specs.Wire.{written}
 use Rattle.data_sets.specs.Masters.{master_in}
 use Rattle.bc_history.specs.Inputs.{value_of}
 use Rattle.bc_history.specs.State.{HubPort}
-use Rattle.hub_core.specs.Engine.{IsEngineOf}
+use Rattle.port_engine.specs.Engine.{IsEngineOf}
+use Rattle.bc_history.proofs.Following.{fired_alike}
+use Rattle.hub_core.proofs.Keepings.{keeps-engine}
 use Rattle.hub_core.proofs.Takings.{taken-timer, set_for}
 use Rattle.hub_core.proofs.port.PortNow.take_timer.Goals as goal
 
@@ -25,6 +27,7 @@ returns-clause-taken c = λ o reading port h clock value s.
     let E : ℤ → Type 0 = λ seen. IsEngineOf n c.fire.new.self (fired c.args.tick seen timer h.port) in
     let F : ℕ → ℤ → Type 0 = λ domain seen. c.fire.new.frames.items ≡ c.args.frames.now.items ++ map written (timer_messages domain (master_in c.args.sets.now) seen timer h.port) in
     let after : HubPort = record h { port = fired c.args.tick (value_of reading) timer h.port; measured = None } in
-    let stands = c.expire.ensures.stands n after (record { engine = subst E seen_is (c.in-Ok.ensures.port n c.args.tick h.port s.engine set); records = s.records; reached = s.reached }) in
-    let frames = subst (λ (d : ℕ). F d (value_of reading)) clock.domain (subst (λ (z : ℤ). F c.args.sets.now.domain z) seen_is (c.in-Ok.ensures.frames n h.port s.engine)) in
+    let alike = fired_alike c.args.tick (value_of reading) timer h.port in
+    let stands = c.expire.ensures.stands n after (keeps-engine n m c.args.self.now _ h.port after.port h.kept refl alike.id alike.conf s (subst E seen_is (c.in-Ok.ensures.port n h.port c.args.tick s.engine set))) in
+    let frames = subst (λ (d : ℕ). F d (value_of reading)) clock.domain (subst (λ (z : ℤ). F c.args.sets.now.domain z) seen_is (c.in-Ok.ensures.sent n h.port s.engine)) in
     rw c.nothing.ensures (taken-timer o m c.args.sets.now reading port c.args.tick timer h c.expire.new.self c.args.frames.now.items c.fire.new.frames.items (set_for timer c.args.tick h.port set) stands frames)

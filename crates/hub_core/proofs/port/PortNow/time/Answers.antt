@@ -3,8 +3,9 @@ use Rattle.std.proofs.lemmas.Int.{to_z-of_z}
 use Rattle.ptp_profile.specs.declared.port.Fate.{Fate}
 use Rattle.ptp_profile.specs.declared.timing.Measure.{Measure}
 use Rattle.ptp_profile.specs.Port.{Port, timing_fate, timing_measure, after_timing}
-use Rattle.hub_core.specs.Engine.{IsEngineOf, responses}
-use Rattle.hub_core.proofs.Frames.{message_fate-timing, timing_fate-other, stands-other, responses-answered}
+use Rattle.ptp_profile.specs.Frames.{delay_response_by}
+use Rattle.port_engine.specs.Engine.{IsEngineOf, frames_for}
+use Rattle.hub_core.proofs.Frames.{message_fate-timing, timing_fate-other, stands-other, responses-answered, keeps-timing}
 use Rattle.hub_core.proofs.port.PortNow.time.Goals as goal
 
 -- the reading as the engine was given it
@@ -30,10 +31,10 @@ returns-clause-stands c = λ length h s.
     let P : ℤ → Type 0 = λ seen. IsEngineOf length c.heard.new.self (after_timing c.args.message.now seen c.in-Ok.fate h.port) in
     stands-other length c.args.moment _ h c.args.message.now c.args.seen.now c.in-Ok.fate
     (λ e. timing_fate-other c.args.parent c.args.message.now c.args.seen.now h.port c.args.message.now.body (sym (fate c length h.port s.engine) ∙ e))
-    (record { engine = subst P (same c) (c.in-Ok.ensures.port length h.port s.engine); records = s.records; reached = s.reached })
+    (keeps-timing length c.args.moment c.args.self.now _ h.port h.kept c.args.message.now c.args.seen.now c.in-Ok.fate refl s (subst P (same c) (c.in-Ok.ensures.port length h.port s.engine)))
 
 pub returns-clause-frames : goal.returns-clause-frames
 returns-clause-frames c = λ length h s.
-    let P : ℤ → Type 0 = λ seen. c.heard.new.frames.items ≡ c.args.frames.now.items ++ responses c.args.message.now seen c.in-Ok.fate h.port in
-    subst P (same c) (c.in-Ok.ensures.frames length h.port s.engine)
+    let P : ℤ → Type 0 = λ seen. c.heard.new.frames.items ≡ c.args.frames.now.items ++ frames_for c.in-Ok.fate (delay_response_by c.args.message.now.domain seen c.args.message.now h.port) in
+    subst P (same c) (c.in-Ok.ensures.sent length h.port s.engine)
     ∙ ap (λ (sent : List (List ℕ)). c.args.frames.now.items ++ sent) (responses-answered c.args.message.now c.args.seen.now c.in-Ok.fate h.port)
