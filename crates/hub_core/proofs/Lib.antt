@@ -6,3 +6,4 @@ pub mod Standings
 pub mod Ownings
 pub mod Codes
 pub mod Decisions
+pub mod Servings

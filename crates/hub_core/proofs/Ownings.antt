@@ -29,7 +29,7 @@ use Rattle.hub_core.specs.declared.taking.Taken.{Taken}
 use Rattle.hub_core.proofs.Standings.{AllStandFor-later, AllStandFor-get, AllStandFor-at}
 
 -- the port at an index after its change
-changed-get : (f : HubPort → HubPort) (hs : List HubPort) (i : ℕ) (h : HubPort) → slice_get hs i ≡ Some h → slice_get (changed_at f i hs) i ≡ Some (f h)
+pub changed-get : (f : HubPort → HubPort) (hs : List HubPort) (i : ℕ) (h : HubPort) → slice_get hs i ≡ Some h → slice_get (changed_at f i hs) i ≡ Some (f h)
 changed-get f [] i h is = cc
 changed-get f (x ∷ hs) zero h is = ap (λ (o : Option HubPort). option_map f o) is
 changed-get f (x ∷ hs) (suc i) h is = changed-get f hs i h is

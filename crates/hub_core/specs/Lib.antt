@@ -2,3 +2,4 @@ pub mod Standing
 pub mod Taking
 pub mod Owning
 pub mod Deciding
+pub mod Serving

@@ -9,4 +9,5 @@ mod moves;
 mod now;
 mod port;
 mod scratch;
+mod serving;
 mod taking;

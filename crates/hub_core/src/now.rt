@@ -46,6 +46,7 @@ impl Now {
         requires room { 2 ≤ frames.old.spare }
         requires flags { self.old.sets.time.flags < 64 }
         ensures of { IsOf options.now self.new }
+        ensures length { self.new.ports.len ≡ self.old.ports.len }
         ensures owned { (c : Core) (reading : Option Seen) → value_of reading ≡ seen.now → IsCore options.now.delay_filter_length self.old c
             → HasOwned options.now c reading input.now self.new frames.old.items frames.new.items result }
     {
@@ -120,6 +121,7 @@ impl Now {
         requires served { IsServed input.now }
         requires room { HasRoom self.old.ports.len scratch.old }
         ensures of { IsOf options.now self.new }
+        ensures length { self.new.ports.len ≡ self.old.ports.len }
         ensures room { HasRoom self.new.ports.len scratch.new }
         ensures core { (fate : Option Fate) (c : Core) → IsKeptBy fate input.now c.ports sender → IsCore options.now.delay_filter_length self.old c
             → IsCore options.now.delay_filter_length self.new (raised options.now fate input.now c) }
@@ -137,6 +139,7 @@ impl Now {
         requires served { IsServed input.now }
         requires room { HasRoom self.old.ports.len scratch.old }
         ensures of { IsOf options.now self.new }
+        ensures length { self.new.ports.len ≡ self.old.ports.len }
         ensures room { HasRoom self.new.ports.len scratch.new }
         ensures core { (hs : List HubPort) (c : Core) → IsSetAt input.now hs → IsSenderAt taken.now.fate taken.now.sender input.now c.ports
             → IsCore options.now.delay_filter_length self.old c
