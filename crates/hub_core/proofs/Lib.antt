@@ -7,3 +7,5 @@ pub mod Ownings
 pub mod Codes
 pub mod Decisions
 pub mod Servings
+pub mod Dues
+pub mod Timed
