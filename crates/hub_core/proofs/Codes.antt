@@ -1,5 +1,5 @@
 -- The codes of all ports are those of the history's decision.
-use Rattle.std.proofs.Common.{◌≡◌, ℕ, suc, ◌+◌, ◌<◌, arith, List, [], ◌∷◌, map, refl, ap, sym, subst, ◌∙◌, Option, Some, None}
+use Rattle.std.proofs.Common.{◌≡◌, ℕ, suc, ◌+◌, arith, List, [], ◌∷◌, map, refl, ap, sym, subst, ◌∙◌, Option, Some, None}
 use Rattle.std.specs.Prelude.{fold, filter_map, All, IfSome, if◌then◌else◌, Bool, true, false}
 use Rattle.std.specs.List.{enumerate_from, cons_option}
 use Rattle.ptp_base.specs.declared.identity.PortId.{PortId}
@@ -11,10 +11,9 @@ use Rattle.ptp_profile.specs.Foreign.{better, ebest}
 use Rattle.ptp_profile.specs.Decision.{bests_of, codes_of, code_of}
 use Rattle.bc_history.specs.declared.scenario.Options.{Options}
 use Rattle.bc_history.specs.Deciding.{best_of, best_among, code_with}
-use Rattle.bc_history.specs.Opening.{own_port}
 use Rattle.bc_history.specs.State.{HubPort}
 use Rattle.hub_core.specs.Standing.{AllStandFor, ArePortsOf}
-use Rattle.hub_core.specs.Deciding.{IsNear, port_bests}
+use Rattle.hub_core.specs.Deciding.{port_bests}
 use Rattle.hub_core.specs.declared.port.PortNow.{PortNow}
 
 -- the best of each port, in rising number

@@ -1,16 +1,15 @@
 -- What a decision leaves of the hub's keeping.
-use Rattle.std.proofs.Common.{◌≡◌, ℕ, List, map, refl, ap, sym, subst, ◌∙◌, Option}
+use Rattle.std.proofs.Common.{◌≡◌, ℕ, List, map, ap, sym, subst, ◌∙◌, Option}
 use Rattle.std.specs.Prelude.{fold}
 use Rattle.ptp_base.specs.declared.announcement.Announcement.{Announcement}
 use Rattle.ptp_base.specs.declared.decision.Code.{Code}
-use Rattle.ptp_base.specs.declared.identity.PortId.{PortId}
 use Rattle.ptp_profile.specs.DataSets.{Master, applied}
 use Rattle.ptp_profile.specs.Foreign.{ebest}
 use Rattle.ptp_profile.specs.Decision.{bests_of, codes_of}
 use Rattle.data_sets.specs.declared.data_sets.DataSets.{DataSets}
 use Rattle.data_sets.specs.Masters.{master_in}
 use Rattle.bc_history.specs.declared.scenario.Options.{Options}
-use Rattle.bc_history.specs.Deciding.{best_of, best_among, decided, decided_port, master_among, code_with}
+use Rattle.bc_history.specs.Deciding.{best_among, decided, decided_port, master_among, code_with}
 use Rattle.bc_history.specs.Opening.{own_of}
 use Rattle.bc_history.specs.State.{HubPort, Core}
 use Rattle.hub_core.specs.Standing.{AllStandFor, ArePortsOf, IsCoreOf}
@@ -29,7 +28,7 @@ unfolding decided
 core-decided n own m best former d qs c moment_is former_is best_is is =
     let P : ℕ → Option Announcement → Master → Type 0 = λ x y z. IsDecided n own x y z c.ports (master_in d) qs in
     let there : P c.moment (best_among c.moment c.ports) c.master =
-        subst (λ (x : ℕ). P x (best_among x c.ports) c.master) moment_is (subst (λ (y : Option Announcement). P m y c.master) best_is (subst (P m best) former_is is)) in
+    subst (λ (x : ℕ). P x (best_among x c.ports) c.master) moment_is (subst (λ (y : Option Announcement). P m y c.master) best_is (subst (P m best) former_is is)) in
     let Q : ℕ → Master → Type 0 = λ x z. AllStandFor n x qs (map (decided_port own c.moment (best_among c.moment c.ports) c.master.parent z.steps) c.ports) in
     let ports : Q c.moment (master_among own c.moment (best_among c.moment c.ports) c.master c.ports) = subst (Q c.moment) there.master_is there.ports in
     record {

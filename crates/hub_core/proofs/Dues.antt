@@ -1,11 +1,10 @@
 -- What is due was set, and is of a port.
-use Rattle.std.proofs.Common.{◌≡◌, ℕ, zero, suc, ◌+◌, ◌-◌, ◌<◌, ◌≤◌, List, [], ◌∷◌, length, refl, ap, sym, ◌∙◌, subst, arith, Option, Some, None, Bool, true, false, cond}
+use Rattle.std.proofs.Common.{◌≡◌, ℕ, zero, suc, ◌-◌, ◌<◌, ◌≤◌, List, [], ◌∷◌, length, refl, ap, ◌∙◌, subst, arith, Option, Some, None, Bool, true, false, cond}
 use Rattle.std.specs.Prelude.{IsSomeAnd, IfSome, All, fold, slice_get, nat_lt, filter_map, option_map}
 use Rattle.std.specs.List.{cons_option}
 use Rattle.std.proofs.lemmas.List.Elements.{All-cons, All-nil}
 use Rattle.std.proofs.lemmas.Bool.{false≢true, eqb-true}
 use Rattle.ptp_profile.specs.declared.port.Timer.{Timer}
-use Rattle.ptp_profile.specs.declared.port.Timer.TheVariants.{AnnounceReceipt, Qualification, AnnounceSend, SyncSend, DelayRequest}
 use Rattle.ptp_profile.specs.Timers.{Timers, timer_at, set_timer, sooner, due_of, all_timers}
 use Rattle.ptp_profile.specs.Port.{Port, is_set_for}
 use Rattle.bc_history.specs.declared.entry.Input.{Input}
@@ -15,9 +14,9 @@ use Rattle.bc_history.specs.declared.scenario.Record.{Record}
 use Rattle.bc_history.specs.declared.scenario.Happening.{Happening}
 use Rattle.bc_history.specs.declared.scenario.Happening.TheVariants.{Frame as Frame_record, Down as Down_record, Up as Up_record}
 use Rattle.bc_history.specs.Inputs.{port_at, port_of, tick_of, holds}
-use Rattle.bc_history.specs.Next.{record_or_timer, input_of, records_of, IsDue, IsNext}
+use Rattle.bc_history.specs.Next.{record_or_timer, input_of, records_of, IsDue}
 use Rattle.bc_history.specs.State.{HubPort, State}
-use Rattle.hub_core.specs.Standing.{StandsFor, AllStandFor}
+use Rattle.hub_core.specs.Standing.{AllStandFor}
 use Rattle.hub_core.specs.Taking.{IsServed}
 use Rattle.hub_core.specs.Owning.{IsThere, IsReadyAmong, IsSetAt}
 use Rattle.hub_core.specs.declared.port.PortNow.{PortNow}

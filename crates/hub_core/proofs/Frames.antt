@@ -1,12 +1,11 @@
 -- What becomes of frames, and what they leave of a port.
-use Rattle.std.proofs.Common.{◌≡◌, ◌≢◌, ℕ, ℤ, ◌≤◌, Bool, true, false, cond, refl, sym, ap, subst, ◌∙◌, arith, List, [], ◌∷◌, ◌++◌, Option, Some, None, Result, Ok, Err}
+use Rattle.std.proofs.Common.{◌≡◌, ◌≢◌, ℕ, ℤ, ◌≤◌, Bool, true, false, cond, refl, sym, ap, subst, ◌∙◌, arith, List, ◌∷◌, ◌++◌, Option, Some, None, Result, Ok}
 use Rattle.std.proofs.lemmas.List.Elements.{All-cons}
 use Rattle.std.proofs.lemmas.List.{append-nil}
 use Rattle.ptp_profile.specs.declared.message.Reject.{Reject}
 use Rattle.ptp_base.specs.declared.identity.PortId.{PortId}
 use Rattle.ptp_base.specs.declared.triple.Triple.{Triple}
 use Rattle.ptp_base.specs.declared.announcement.Announcement.{Announcement}
-use Rattle.ptp_base.specs.declared.port.PortConf.{PortConf}
 use Rattle.ptp_base.specs.declared.port.PortState.{PortState}
 use Rattle.ptp_base.specs.declared.port.PortState.TheVariants.{Initializing, Faulty, Disabled, Listening, PreMaster, Master, Passive, Uncalibrated, Slave}
 use Rattle.ptp_profile.specs.declared.timing.Measure.{Measure}
@@ -26,13 +25,12 @@ use Rattle.ptp_profile.specs.Sync.{Request}
 use Rattle.ptp_profile.specs.Machine.{is_master, is_faulty}
 use Rattle.ptp_profile.specs.Port.{Port, timing_fate, after_timing, timing_measure, takes_from, paired_fate, response_fate, triple_of, answered_by}
 use Rattle.foreign_master.specs.Memory.{Remembers}
-use Rattle.foreign_master.specs.Places.{IsReached}
 use Rattle.bc_history.specs.Own.{announcement_of, message_fate, with_message, read_fate, frame_fate, frame_measure, with_frame}
 use Rattle.bc_history.specs.Effects.{is_answered}
 use Rattle.bc_history.specs.State.{HubPort}
 use Rattle.port_engine.specs.Engine.{IsEngineOf, frames_for}
 use Rattle.ptp_profile.specs.Frames.{delay_response_by}
-use Rattle.bc_history.proofs.Following.{Alike, timing_alike}
+use Rattle.bc_history.proofs.Following.{timing_alike}
 use Rattle.hub_core.proofs.Keepings.{keeps-engine}
 use Rattle.hub_core.specs.Taking.{answered, IsOther}
 use Rattle.hub_core.specs.Standing.{IsPort, StandsFor}

@@ -1,14 +1,14 @@
 -- What keeps a port the one that the records are of.
-use Rattle.std.proofs.Common.{◌≡◌, ℕ, ℤ, Bool, true, List, refl, sym, ap, ◌∙◌}
+use Rattle.std.proofs.Common.{◌≡◌, ℕ, Bool, true, List, refl, sym, ap, ◌∙◌}
 use Rattle.ptp_base.specs.declared.identity.PortId.{PortId}
 use Rattle.ptp_base.specs.declared.port.PortConf.{PortConf}
 use Rattle.ptp_profile.specs.declared.foreign.KeptAnnounce.{KeptAnnounce}
 use Rattle.ptp_profile.specs.declared.port.PortEvent.{PortEvent}
 use Rattle.ptp_profile.specs.Timers.{window_of}
 use Rattle.ptp_profile.specs.Port.{Port, after_event, renewed}
-use Rattle.port_engine.specs.Engine.{Engine, IsEngineOf}
+use Rattle.port_engine.specs.Engine.{IsEngineOf}
 use Rattle.foreign_master.specs.Memory.{Memory}
-use Rattle.bc_history.proofs.Following.{face, face-after_event}
+use Rattle.bc_history.proofs.Following.{face-after_event}
 use Rattle.ptp_profile.specs.Machine.{is_dependent}
 use Rattle.bc_history.specs.Deciding.{best_of, newest_sender, is_sent_by, renewed_by}
 use Rattle.bc_history.specs.State.{HubPort}

@@ -1,5 +1,5 @@
 -- An entry's own port among all ports.
-use Rattle.std.proofs.Common.{◌≡◌, ℕ, zero, suc, ◌+◌, ◌<◌, ◌≤◌, true, false, List, [], ◌∷◌, ◌++◌, map, length, get_or, set, refl, ap, subst, sym, ◌∙◌, arith, Option, Some, None}
+use Rattle.std.proofs.Common.{◌≡◌, ℕ, zero, suc, ◌<◌, true, false, List, [], ◌∷◌, ◌++◌, map, length, get_or, set, refl, ap, subst, sym, ◌∙◌, arith, Option, Some, None}
 use Rattle.std.specs.Prelude.{max, slice_get, option_map, option_and_then, IsSomeAnd}
 use Rattle.ptp_base.specs.declared.announcement.Announcement.{Announcement}
 use Rattle.ptp_profile.specs.declared.foreign.KeptAnnounce.{KeptAnnounce}
@@ -54,15 +54,15 @@ owned-taken o m k d qs c reading input i q q' before after t new moment master a
     let taken = takes there.0 there.2 in
     let port : HubPort = there.0 in
     let S : List RoleOrder → ℕ → Master → Type 0 = λ orders x y. (h : HubPort) → slice_get c.ports i ≡ Some h → StandsFor n k q h
-        → StandsFor n k q' (own_step o x y.parent y.steps (stamp_of h.port.conf.clock orders) reading input h) in
+    → StandsFor n k q' (own_step o x y.parent y.steps (stamp_of h.port.conf.clock orders) reading input h) in
     let steps : (orders : List RoleOrder) → S orders (moment_after c input) c.master =
-        λ orders. subst (λ (x : ℕ). S orders x c.master) at (subst (λ (y : Master). S orders k y) master (λ h found s. (takes h s).stands (stamp_of h.port.conf.clock orders))) in
+    λ orders. subst (λ (x : ℕ). S orders x c.master) at (subst (λ (y : Master). S orders k y) master (λ h found s. (takes h s).stands (stamp_of h.port.conf.clock orders))) in
     let F : ℕ → Master → Type 0 = λ x y. t.fate ≡ input_fate o x y.parent input (value_of reading) port in
     let M : ℕ → Master → Type 0 = λ x y. t.measure ≡ input_measure o x y.parent input (value_of reading) port in
     let R : Master → Type 0 = λ y. after ≡ before ++ map written (messages_by o t.fate y (value_of reading) input port.port) in
     let W : List RoleOrder → ℕ → Master → Type 0 = λ orders x y. IsSenderOf t.fate t.sender (own_step o x y.parent y.steps (stamp_of port.port.conf.clock orders) reading input port) in
     let sent : (orders : List RoleOrder) → W orders (moment_after c input) c.master =
-        λ orders. subst (λ (x : ℕ). W orders x c.master) at (subst (W orders k) master (taken.sender (stamp_of port.port.conf.clock orders))) in
+    λ orders. subst (λ (x : ℕ). W orders x c.master) at (subst (W orders k) master (taken.sender (stamp_of port.port.conf.clock orders))) in
     let P : ℕ → DataSets → List PortNow → Type 0 = λ x y z. (orders : List RoleOrder) → IsCoreOf n x y z (owned o orders (event input reading) c) in
     let core : P k d (set qs i q') = λ orders. record {
       moment = at;

@@ -1,5 +1,5 @@
 -- What was taken is what the entry tells.
-use Rattle.std.proofs.Common.{◌≡◌, ℕ, ℤ, zero, suc, Bool, true, false, cond, refl, sym, ap, subst, ◌∙◌, List, [], ◌∷◌, ◌++◌, map, Option, Some, None}
+use Rattle.std.proofs.Common.{◌≡◌, ℕ, zero, suc, Bool, true, false, cond, refl, sym, ap, subst, ◌∙◌, List, [], ◌∷◌, map, Option, Some, None}
 use Rattle.std.specs.Prelude.{slice_get, option_map, option_and_then, option_to_list, flat_map, ◌&&◌}
 use Rattle.std.proofs.lemmas.List.{append-nil}
 use Rattle.ptp_base.specs.declared.announcement.Announcement.{Announcement}
@@ -22,7 +22,7 @@ use Rattle.bc_history.specs.declared.entry.Sent.{Sent}
 use Rattle.bc_history.specs.declared.scenario.Options.{Options}
 use Rattle.bc_history.specs.Inputs.{port_of, port_at, changed_at, at_port, value_of}
 use Rattle.bc_history.specs.Own.{owned, own_step, own_event, acted, reset_by, took, fate_at, input_fate, moment_after}
-use Rattle.bc_history.specs.Deciding.{decided, decided_port, master_among, heard, renewed_by, raised, ruled, raises, is_kept, best_among, best_of, is_sent_by, newest_sender}
+use Rattle.bc_history.specs.Deciding.{decided, decided_port, master_among, heard, renewed_by, ruled, raises, is_kept, best_among, best_of, is_sent_by, newest_sender}
 use Rattle.bc_history.specs.Opening.{own_of}
 use Rattle.bc_history.specs.Effects.{event, frames_at, messages_by, sent}
 use Rattle.bc_history.specs.Step.{measure_at}

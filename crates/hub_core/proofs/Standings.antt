@@ -1,13 +1,8 @@
 -- The hub's ports and those of the history, one after another.
-use Rattle.std.proofs.Common.{◌≡◌, ℕ, zero, suc, ◌+◌, ◌<◌, ◌≤◌, List, [], ◌∷◌, ◌++◌, length, map, drop, get_or, set, refl, ap, subst, sym, ◌∙◌, arith, Option, Some, None}
-use Rattle.std.specs.Prelude.{All, slice_get}
-use Rattle.ptp_profile.specs.declared.foreign.KeptAnnounce.{KeptAnnounce}
-use Rattle.foreign_master.specs.Places.{IsReached}
-use Rattle.ptp_base.specs.declared.port.PortConf.{PortConf}
-use Rattle.ptp_profile.specs.Timers.{window_of}
+use Rattle.std.proofs.Common.{◌≡◌, ℕ, zero, suc, ◌+◌, ◌<◌, ◌≤◌, List, [], ◌∷◌, ◌++◌, length, map, drop, get_or, set, refl, ap, subst, ◌∙◌, arith, Some}
+use Rattle.std.specs.Prelude.{slice_get}
 use Rattle.bc_history.specs.declared.scenario.Options.{Options}
 use Rattle.bc_history.specs.Inputs.{changed_at}
-use Rattle.bc_history.specs.Opening.{own_port}
 use Rattle.bc_history.specs.State.{HubPort}
 use Rattle.hub_core.specs.Standing.{StandsFor, AllStandFor, IsSamePort, IsPortOf, ArePortsOf}
 use Rattle.hub_core.specs.declared.port.PortNow.{PortNow}

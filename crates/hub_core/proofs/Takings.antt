@@ -1,5 +1,5 @@
 -- What a port makes of its inputs.
-use Rattle.std.proofs.Common.{◌≡◌, ◌≢◌, ℕ, ℤ, ◌≤◌, Bool, true, false, cond, eqb, refl, sym, ap, subst, ◌∙◌, List, [], ◌∷◌, ◌++◌, map, Option, Some, None, Result, Ok, Err}
+use Rattle.std.proofs.Common.{◌≡◌, ◌≢◌, ℕ, ℤ, Bool, true, false, cond, eqb, refl, sym, ap, subst, ◌∙◌, List, ◌++◌, map, Option, Some, None, Result, Ok, Err}
 use Rattle.std.specs.Prelude.{IfOk, IsSomeAnd}
 use Rattle.std.proofs.lemmas.List.{append-nil}
 use Rattle.std.proofs.lemmas.Bool.{eq-eqb}
@@ -17,23 +17,19 @@ use Rattle.ptp_profile.specs.Machine.{is_faulty}
 use Rattle.ptp_profile.specs.Wire.{written, Reads}
 use Rattle.ptp_profile.specs.Timers.{timer_at}
 use Rattle.ptp_profile.specs.Frames.{timer_messages}
-use Rattle.ptp_profile.specs.Roles.{Stamp}
 use Rattle.ptp_profile.specs.Port.{Port, is_set_for, fired}
 use Rattle.data_sets.specs.declared.data_sets.DataSets.{DataSets}
 use Rattle.data_sets.specs.Masters.{master_in}
-use Rattle.bc_history.specs.declared.entry.Input.{Input}
 use Rattle.bc_history.specs.declared.entry.Input.TheVariants.{Frame, Timed, Down, Up}
 use Rattle.bc_history.specs.declared.entry.Seen.{Seen}
 use Rattle.bc_history.specs.declared.scenario.Options.{Options}
 use Rattle.bc_history.specs.Inputs.{value_of}
-use Rattle.bc_history.specs.Own.{message_fate, read_fate, frame_fate, frame_measure, with_frame, with_message, with_kept, read_frame, own_step, acted, reset_by, timer_event}
+use Rattle.bc_history.specs.Own.{message_fate, frame_fate, frame_measure, with_frame, with_message, with_kept, read_frame, acted, reset_by, timer_event}
 use Rattle.bc_history.specs.Deciding.{newest_sender}
-use Rattle.bc_history.specs.Effects.{messages_by}
 use Rattle.bc_history.specs.State.{HubPort}
 use Rattle.hub_core.specs.Standing.{StandsFor}
-use Rattle.hub_core.specs.Taking.{answered, HasTaken, IsSenderOf}
+use Rattle.hub_core.specs.Taking.{answered, HasTaken}
 use Rattle.hub_core.specs.declared.port.PortNow.{PortNow}
-use Rattle.hub_core.specs.declared.taking.Taken.{Taken}
 use Rattle.hub_core.proofs.Frames.{timing_fate-other}
 
 -- ---- the sender of a kept Announce

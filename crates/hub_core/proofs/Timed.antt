@@ -1,5 +1,5 @@
 -- The time flags of what is kept, and of what the clock takes its time from, are six bits.
-use Rattle.std.proofs.Common.{◌≡◌, ℕ, ℤ, zero, suc, ◌+◌, ◌<◌, ◌≤◌, ◌%◌, Bool, true, false, cond, refl, sym, ap, subst, ◌∙◌, arith, List, [], ◌∷◌, map, Option, Some, None, Result, Ok, Err}
+use Rattle.std.proofs.Common.{ℕ, ℤ, zero, suc, ◌+◌, ◌<◌, ◌%◌, Bool, true, false, cond, arith, List, [], ◌∷◌, map, Option, Some, None, Result, Ok, Err}
 use Rattle.std.specs.Prelude.{IfSome, fold, filter_map, find, option_map}
 use Rattle.std.specs.List.{cons_option}
 use Rattle.ptp_base.specs.declared.identity.PortId.{PortId}
@@ -18,8 +18,8 @@ use Rattle.ptp_profile.specs.declared.port.PortEvent.{PortEvent}
 use Rattle.ptp_profile.specs.declared.port.PortEvent.TheVariants.{FaultDetected, FaultCleared, AnnounceTimeout, QualificationTimeout, MasterClockSelected, SynchronizationFault, Decided}
 use Rattle.ptp_profile.specs.declared.roles.RoleOrder.{RoleOrder}
 use Rattle.ptp_profile.specs.Compare.{wins}
-use Rattle.ptp_profile.specs.Foreign.{is_from, record_of, qualified, senders, better, winner, erbest, ebest, count_from}
-use Rattle.ptp_profile.specs.DataSets.{Master, applied, own_master, master_of, best_master}
+use Rattle.ptp_profile.specs.Foreign.{is_from, record_of, qualified, senders, better, erbest}
+use Rattle.ptp_profile.specs.DataSets.{Master, applied, best_master}
 use Rattle.ptp_profile.specs.Machine.{is_dependent}
 use Rattle.ptp_profile.specs.Port.{renewed}
 use Rattle.ptp_profile.specs.Roles.{Stamp, stamp_of}
@@ -31,8 +31,8 @@ use Rattle.bc_history.specs.declared.scenario.Options.{Options}
 use Rattle.bc_history.specs.declared.scenario.Scenario.{Scenario}
 use Rattle.bc_history.specs.Inputs.{changed_at, at_port, port_of, event_of, value_of}
 use Rattle.bc_history.specs.Opening.{open_ports, own_of}
-use Rattle.bc_history.specs.Own.{owned, own_step, own_event, acted, reset_by, took, took_frame, with_frame, with_message, with_kept, read_frame, frame_fate, moment_after, fate_at, announcement_of}
-use Rattle.bc_history.specs.Deciding.{decided, decided_port, code_with, best_of, best_among, master_among, heard, renewed_by, raises, is_kept, is_sent_by, newest_sender}
+use Rattle.bc_history.specs.Own.{owned, own_event, acted, reset_by, took, with_frame, with_message, with_kept, read_frame, frame_fate, moment_after, fate_at}
+use Rattle.bc_history.specs.Deciding.{decided, decided_port, code_with, best_of, best_among, master_among, heard, renewed_by, raises, is_kept}
 use Rattle.bc_history.specs.Step.{step, core_after, state_of}
 use Rattle.bc_history.specs.State.{Event, HubPort, Core, State}
 

@@ -16,7 +16,7 @@ use Rattle.bc_history.specs.Own.{owned, input_fate, moment_after}
 use Rattle.bc_history.specs.Effects.{messages_by, event}
 use Rattle.bc_history.specs.State.{HubPort, Core}
 use Rattle.hub_core.specs.Standing.{IsCore}
-use Rattle.hub_core.specs.Taking.{IsReady, IsSenderOf, input_measure}
+use Rattle.hub_core.specs.Taking.{IsReady, input_measure}
 use Rattle.hub_core.specs.declared.port.PortNow.{PortNow}
 use Rattle.hub_core.specs.declared.now.Now.{Now}
 use Rattle.hub_core.specs.declared.taking.Taken.{Taken}

@@ -8,8 +8,8 @@ ghost use Rattle.bc_history.specs.State.{HubPort};
 ghost use Rattle.hub_core.specs.Standing.{StandsFor, IsSamePort};
 ghost use Rattle.hub_core.specs.Taking.{answered, IsOther};
 
-use port_engine::Frames;
 use crate::port::PortNow;
+use port_engine::Frames;
 use ptp_base::{Announcement, PortId, PortState, TIME_MAX, TimeProps};
 use ptp_profile::{Body, Fate, Heard, Measure, Message, Reject, Said};
 

@@ -14,7 +14,6 @@ ghost use Rattle.hub_core.specs.Owning.{IsThere, IsReadyAmong, IsSetAt, HasOwned
 ghost use Rattle.ptp_profile.specs.declared.port.Fate.{Fate};
 
 use crate::deciding::{apply_codes, decide_ports, is_new_parent, push_bests};
-use port_engine::Frames;
 use crate::inputs::{port_of, tick_of};
 use crate::moves::push_states;
 use crate::port::PortNow;
@@ -22,6 +21,7 @@ use crate::scratch::Scratch;
 use crate::taking::Taken;
 use bc_history::{Input, Options};
 use data_sets::DataSets;
+use port_engine::Frames;
 use ptp_base::{PortId, PortState, Room, TIME_MAX};
 use ptp_profile::{Fate, Timer};
 use state_decision::{decide_all, ebest};
@@ -36,7 +36,13 @@ pub struct Now {
 
 impl Now {
     /// The port of an input takes it, with its own event.
-    pub fn take(&mut self, options: &Options, input: &Input, seen: &i64, frames: &mut Frames) -> Taken
+    pub fn take(
+        &mut self,
+        options: &Options,
+        input: &Input,
+        seen: &i64,
+        frames: &mut Frames,
+    ) -> Taken
         requires of { IsOf options.now self.old }
         requires there { IsThere self.old.ports.len input.now }
         requires served { IsServed input.now }

@@ -7,8 +7,8 @@ ghost use Rattle.ptp_profile.specs.Port.{after_event};
 ghost use Rattle.ptp_profile.specs.Machine.{is_dependent};
 ghost use Rattle.hub_core.specs.Standing.{StandsFor, IsSamePort};
 
-use port_engine::PortEngine;
 use foreign_master::Records;
+use port_engine::PortEngine;
 use port_fsm::next;
 use ptp_base::{Announcement, Code, PortId, PortState};
 use ptp_profile::PortEvent;

@@ -12,10 +12,10 @@ ghost use Rattle.bc_history.specs.State.{HubPort};
 ghost use Rattle.hub_core.specs.Standing.{StandsFor, IsSamePort, IsClockOf};
 ghost use Rattle.hub_core.specs.Taking.{HasTaken, IsServed, IsReady};
 
-use port_engine::Frames;
 use crate::port::PortNow;
 use bc_history::Input;
 use data_sets::DataSets;
+use port_engine::Frames;
 use ptp_base::{Octets, PortId, TIME_MAX};
 use ptp_profile::{Body, Fate, Measure, Message, PortEvent, Reject, Timer};
 use ptp_wire::decode;
@@ -141,12 +141,7 @@ impl PortNow {
         match input {
             Input::Frame { octets, .. } => self.take_octets(id, moment, sets, seen, octets, frames),
             Input::Timed { tick, timer, .. } => self.take_timer(
-                moment,
-                sets,
-                seen,
-                *tick,
-                *timer,
-                frames,
+                moment, sets, seen, *tick, *timer, frames,
             ),
             Input::Down { .. } => {
                 self.act(PortEvent::FaultDetected, moment, sets.steps);

@@ -1,4 +1,4 @@
-use Rattle.std.proofs.Common.{◌≡◌, ◌∙◌, ℕ, suc, List, drop, ap, sym, add-one}
+use Rattle.std.proofs.Common.{◌∙◌, suc, List, drop, ap, sym, add-one}
 use Rattle.std.specs.Prelude.{fold}
 use Rattle.ptp_base.specs.declared.decision.Code.{Code}
 use Rattle.ptp_base.specs.declared.decision.Code.TheVariants.{Stay}

@@ -1,4 +1,4 @@
-use Rattle.std.proofs.Common.{◌≡◌, List, drop}
+use Rattle.std.proofs.Common.{◌≡◌, drop}
 use Rattle.std.specs.Prelude.{fold}
 use Rattle.ptp_profile.specs.DataSets.{applied}
 use Rattle.data_sets.specs.Masters.{master_in}

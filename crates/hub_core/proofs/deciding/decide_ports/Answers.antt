@@ -1,4 +1,4 @@
-use Rattle.std.proofs.Common.{rules, ◌≡◌, ◌∙◌, ℕ, ◌<◌, ◌≤◌, suc, Bool, List, length, map, get_or, refl, ap, sym, subst, arith, add-one, Option, Some}
+use Rattle.std.proofs.Common.{◌≡◌, ◌∙◌, ℕ, ◌<◌, ◌≤◌, Bool, List, length, map, get_or, ap, sym, subst, arith, add-one, Option, Some}
 use Rattle.std.specs.Prelude.{slice_get, option_map}
 use Rattle.std.proofs.lemmas.List.{length-set}
 use Rattle.std.proofs.lemmas.Option.{slice_get-map, get_or_from_slice_get}
@@ -7,11 +7,11 @@ use Rattle.ptp_base.specs.declared.decision.Code.{Code}
 use Rattle.ptp_base.specs.declared.decision.Code.TheVariants.{Stay}
 use Rattle.ptp_profile.specs.declared.port.PortEvent.TheVariants.{Decided}
 use Rattle.ptp_profile.specs.Port.{after_event}
-use Rattle.bc_history.specs.Deciding.{is_new_parent, decided_port, code_with}
+use Rattle.bc_history.specs.Deciding.{decided_port, code_with}
 use Rattle.bc_history.specs.State.{HubPort}
 use Rattle.hub_core.specs.Standing.{StandsFor, AllStandFor, IsSamePort, IsPort}
 use Rattle.hub_core.specs.declared.port.PortNow.{PortNow}
-use Rattle.hub_core.proofs.Standings.{AllStandFor-mapped, AllStandFor-length, ArePortsOf-set, mapped-all, mapped}
+use Rattle.hub_core.proofs.Standings.{AllStandFor-mapped, AllStandFor-length, ArePortsOf-set, mapped-all}
 use Rattle.hub_core.proofs.deciding.decide_ports.Goals as goal
 
 -- the code at an index
@@ -32,10 +32,10 @@ loop-i-preserved c =
           let E : Code → Bool → HubPort → Type 0 = λ code is_new h. IsPort n m c.decide.new.self (after_event m c.args.steps (Decided code) is_new h.port) h.kept in
           let S : HubPort → PortNow → Type 0 = λ h x. StandsFor n m x h in
           let stands : (h : HubPort) → slice_get hs c.loop-i.i ≡ Some h → StandsFor n m q h → StandsFor n m c.decide.new.self (f h) =
-              λ h found s.
-              subst (λ (b : Bool). E (code_with own m best h) b h) new
-              (subst (λ (code : Code). E code c.args.is_new h) (code_at own m best c.args.codes.now hs c.loop-i.i h codes found)
-              (c.decide.ensures.stands n h (subst (S h) c.index-ports-i.is s))) in
+          λ h found s.
+          subst (λ (b : Bool). E (code_with own m best h) b h) new
+          (subst (λ (code : Code). E code c.args.is_new h) (code_at own m best c.args.codes.now hs c.loop-i.i h codes found)
+          (c.decide.ensures.stands n h (subst (S h) c.index-ports-i.is s))) in
           rw add-one (AllStandFor-mapped n m c.loop-i.ports hs c.loop-i.i q c.decide.new.self f lt c.index-ports-i.is stands (c.loop-i.invariant.stand n own best parent hs new codes all));
       of = λ o all.
           let S : PortNow → Type 0 = λ x. IsSamePort x c.decide.new.self in

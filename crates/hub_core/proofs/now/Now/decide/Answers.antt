@@ -1,5 +1,4 @@
-use Rattle.std.proofs.Common.{rules, ◌≡◌, ◌∙◌, ℕ, ◌≤◌, ◌<◌, List, length, ◌++◌, drop, take, refl, ap, sym, subst, arith, Option, None}
-use Rattle.std.specs.Prelude.{All, IfSome}
+use Rattle.std.proofs.Common.{◌≡◌, ◌∙◌, ◌<◌, List, length, ◌++◌, drop, take, ap, sym, subst, arith, Option, None}
 use Rattle.std.proofs.lemmas.List.{with_items_is}
 use Rattle.ptp_base.specs.declared.announcement.Announcement.{Announcement}
 use Rattle.ptp_base.specs.declared.decision.Code.{Code}
@@ -52,7 +51,7 @@ returns-clause-core c = λ core is.
     let A : List PortNow → Type 0 = λ qs. AllStandFor n m qs hs in
     let bests : c.push_bests.new.out.items ≡ port_bests m hs = c.push_bests.ensures.bests n hs (subst A (sym c.deref.ensures.value) is.ports) in
     let codes_is : c.decide_all.new.out ≡ codes_of own (port_bests m hs) =
-        c.decide_all.ensures ∙ (ap (λ (a : Announcement). codes_of a c.items.result.now) c.requires.of.clock.own ∙ ap (λ (x : List PortBest). codes_of own x) (c.items.ensures ∙ bests)) in
+    c.decide_all.ensures ∙ (ap (λ (a : Announcement). codes_of a c.items.result.now) c.requires.of.clock.own ∙ ap (λ (x : List PortBest). codes_of own x) (c.items.ensures ∙ bests)) in
     let best_is = c.ebest-best.ensures ∙ ap (λ (x : List PortBest). ebest (bests_of x)) (c.items-2.ensures ∙ bests) in
     let codes_2 = c.deref-2.ensures.value ∙ codes_are c in
     let codes_3 = c.deref-3.ensures.value ∙ codes_are c in

@@ -1,4 +1,4 @@
-use Rattle.std.proofs.Common.{◌≡◌, Option, subst}
+use Rattle.std.proofs.Common.{Option, subst}
 use Rattle.ptp_base.specs.declared.identity.PortId.{PortId}
 use Rattle.bc_history.specs.Opening.{own_of}
 use Rattle.bc_history.specs.Deciding.{decided, best_among}

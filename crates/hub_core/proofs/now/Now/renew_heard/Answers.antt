@@ -1,4 +1,4 @@
-use Rattle.std.proofs.Common.{rules, ◌≡◌, ◌∙◌, ℕ, suc, ◌-◌, ◌<◌, length, Some, sym, ap, refl, arith}
+use Rattle.std.proofs.Common.{◌≡◌, ◌∙◌, ℕ, suc, ◌-◌, ◌<◌, length, Some, sym, ap, arith}
 use Rattle.hub_core.proofs.Standings.{ArePortsOf-set}
 use Rattle.hub_core.proofs.Ownings.{heard-renewed}
 use Rattle.hub_core.proofs.now.Now.renew_heard.Goals as goal

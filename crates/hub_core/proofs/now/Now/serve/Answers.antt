@@ -1,4 +1,4 @@
-use Rattle.std.proofs.Common.{◌≡◌, ◌∙◌, ℕ, List, [], ◌++◌, map, Option, Some, sym, ap, refl, subst}
+use Rattle.std.proofs.Common.{◌≡◌, ◌∙◌, ℕ, List, [], ◌++◌, Option, ap, refl, subst}
 use Rattle.std.specs.Prelude.{IsSomeAnd, if◌then◌else◌}
 use Rattle.ptp_base.specs.declared.port.PortState.{PortState}
 use Rattle.ptp_profile.specs.declared.port.Fate.{Fate}
@@ -6,7 +6,6 @@ use Rattle.ptp_profile.specs.DataSets.{Master}
 use Rattle.bc_history.specs.declared.entry.Moved.{Moved}
 use Rattle.bc_history.specs.Own.{owned}
 use Rattle.bc_history.specs.Deciding.{raises, raised}
-use Rattle.bc_history.specs.Generations.{states_of}
 use Rattle.bc_history.specs.Effects.{event, changed_parent, moves_from}
 use Rattle.bc_history.specs.State.{HubPort, Core, Event}
 use Rattle.hub_core.specs.Standing.{IsCore}

@@ -1,6 +1,5 @@
-use Rattle.std.proofs.Common.{rules, ◌≡◌, ℕ, ◌+◌, ◌-◌, ◌<◌, ◌≤◌, suc, refl, ap, sym, subst, ◌∙◌, arith, Some, length}
+use Rattle.std.proofs.Common.{rules, ◌≡◌, ℕ, ◌+◌, ◌-◌, ◌<◌, suc, refl, ap, sym, ◌∙◌, arith, Some, length}
 use Rattle.std.proofs.lemmas.Option.{slice_get-get_or}
-use Rattle.hub_core.specs.Standing.{StandsFor, ArePortsOf}
 use Rattle.hub_core.specs.declared.port.PortNow.{PortNow}
 use Rattle.bc_history.specs.Opening.{own_port}
 use Rattle.hub_core.proofs.Standings.{ArePortsOf-set, ArePortsOf-get}

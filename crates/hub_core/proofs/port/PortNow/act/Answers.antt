@@ -1,4 +1,4 @@
-use Rattle.std.proofs.Common.{◌≡◌, ◌∙◌, sym, ap, refl, false, Some}
+use Rattle.std.proofs.Common.{refl, false, Some}
 use Rattle.bc_history.specs.Own.{reset_by}
 use Rattle.hub_core.proofs.Keepings.{keeps-event}
 use Rattle.hub_core.proofs.port.PortNow.act.Goals as goal

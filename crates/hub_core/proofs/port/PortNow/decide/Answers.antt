@@ -1,4 +1,4 @@
-use Rattle.std.proofs.Common.{◌≡◌, refl}
+use Rattle.std.proofs.Common.{refl}
 use Rattle.ptp_profile.specs.declared.port.PortEvent.TheVariants.{Decided}
 use Rattle.hub_core.proofs.Keepings.{keeps-event}
 use Rattle.hub_core.proofs.port.PortNow.decide.Goals as goal

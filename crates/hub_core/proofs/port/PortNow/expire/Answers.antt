@@ -1,4 +1,4 @@
-use Rattle.std.proofs.Common.{◌≡◌, sym, subst}
+use Rattle.std.proofs.Common.{sym, subst}
 use Rattle.ptp_profile.specs.declared.port.Timer.{Timer}
 use Rattle.bc_history.specs.Own.{acted, reset_by, timer_event}
 use Rattle.hub_core.specs.Standing.{StandsFor}

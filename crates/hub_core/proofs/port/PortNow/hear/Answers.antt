@@ -1,8 +1,6 @@
-use Rattle.std.proofs.Common.{◌≡◌, ◌∙◌, refl, ap}
+use Rattle.std.proofs.Common.{◌∙◌, refl, ap}
 use Rattle.ptp_base.specs.declared.identity.PortId.{PortId}
-use Rattle.bc_history.specs.Own.{announcement_of, with_message}
-use Rattle.ptp_profile.specs.declared.port.Fate.{Fate}
-use Rattle.hub_core.specs.Standing.{StandsFor}
+use Rattle.bc_history.specs.Own.{announcement_of}
 use Rattle.hub_core.proofs.Frames.{fate-heard, stands-heard}
 use Rattle.hub_core.proofs.port.PortNow.hear.Goals as goal
 

@@ -1,4 +1,4 @@
-use Rattle.std.proofs.Common.{◌≡◌, sym, subst}
+use Rattle.std.proofs.Common.{sym, subst}
 use Rattle.bc_history.specs.declared.entry.Input.{Input}
 use Rattle.hub_core.specs.Taking.{HasTaken}
 use Rattle.hub_core.proofs.Takings.{taken-down, taken-up}

@@ -1,4 +1,4 @@
-use Rattle.std.proofs.Common.{rules, ◌≡◌, ◌≢◌, ◌∙◌, refl, ap, sym, subst, ◌++◌, List, ℕ, Bool, false}
+use Rattle.std.proofs.Common.{rules, ◌≡◌, ◌≢◌, ◌∙◌, ℕ}
 use Rattle.ptp_base.specs.declared.port.PortState.TheVariants.{Faulty}
 use Rattle.bc_history.specs.Own.{frame_fate}
 use Rattle.bc_history.specs.State.{HubPort}

@@ -1,6 +1,5 @@
-use Rattle.std.proofs.Common.{rules, ◌≡◌, ◌≢◌, ◌∙◌, refl, ap, sym, subst, ◌++◌, List, ℕ, Bool, false, eqb}
-use Rattle.ptp_base.specs.declared.identity.PortId.{PortId}
-use Rattle.hub_core.proofs.Frames.{with_own, unanswered}
+use Rattle.std.proofs.Common.{rules}
+use Rattle.hub_core.proofs.Frames.{with_own}
 use Rattle.hub_core.proofs.port.PortNow.take_message.Goals as goal
 
 pub returns-in-Announce-clause-fate : goal.returns-in-Announce-clause-fate

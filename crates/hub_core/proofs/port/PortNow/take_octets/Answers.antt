@@ -1,4 +1,4 @@
-use Rattle.std.proofs.Common.{◌≡◌, ◌∙◌, refl, ap, sym, subst, List, ℕ, ℤ, Result}
+use Rattle.std.proofs.Common.{◌≡◌, ◌∙◌, ap, sym, subst, List, ℕ, ℤ, Result}
 use Rattle.ptp_profile.specs.declared.message.Message.{Message}
 use Rattle.ptp_profile.specs.declared.message.Reject.{Reject}
 use Rattle.ptp_profile.specs.Wire.{decoded}
@@ -13,9 +13,9 @@ returns-clause-taken c = λ o reading port tick h clock value s.
     let sets = c.args.sets.now in
     let n = o.delay_filter_length in
     let read_is : c.decode-read.result ≡ read_frame o c.args.octets.now =
-        c.decode-read.ensures.exact ∙ (ap (λ (d : ℕ). decoded d c.items.result.now) clock.domain ∙ ap (λ (b : List ℕ). decoded o.domain_number b) c.items.ensures) in
+    c.decode-read.ensures.exact ∙ (ap (λ (d : ℕ). decoded d c.items.result.now) clock.domain ∙ ap (λ (b : List ℕ). decoded o.domain_number b) c.items.ensures) in
     let P : Result Message Reject → ℤ → Type 0 =
-        λ read seen. IsTakenFrame o m sets h c.take_frame-judged.new.self c.args.frames.now.items c.take_frame-judged.new.frames.items c.take_frame-judged.result.fate c.take_frame-judged.result.measure c.sender_of.result read seen in
+    λ read seen. IsTakenFrame o m sets h c.take_frame-judged.new.self c.args.frames.now.items c.take_frame-judged.new.frames.items c.take_frame-judged.result.fate c.take_frame-judged.result.measure c.sender_of.result read seen in
     let facts : P c.decode-read.result c.args.seen.now = record {
       fate_is = c.take_frame-judged.ensures.fate n h s;
       measure_is = c.take_frame-judged.ensures.measure n h s;

@@ -1,4 +1,4 @@
-use Rattle.std.proofs.Common.{rules, ◌≡◌, ◌∙◌, refl, ap, sym, subst, ◌++◌, List, ℕ, ℤ, map, w64, to_z, of_z, None}
+use Rattle.std.proofs.Common.{rules, ◌≡◌, ◌∙◌, refl, ap, sym, subst, ◌++◌, ℕ, ℤ, map, w64, to_z, of_z, None}
 use Rattle.std.proofs.lemmas.Int.{to_z-of_z}
 use Rattle.ptp_profile.specs.Frames.{timer_messages}
 use Rattle.ptp_profile.specs.Timers.{Timers, timer_at}

@@ -1,7 +1,5 @@
-use Rattle.std.proofs.Common.{rules, ◌≡◌, ◌≢◌, ◌∙◌, refl, ap, sym, subst, ◌++◌, List, ℕ, ℤ, Option, w64, to_z, of_z}
+use Rattle.std.proofs.Common.{rules, ◌≡◌, ◌∙◌, refl, ap, sym, subst, ◌++◌, List, ℕ, ℤ, w64, to_z, of_z}
 use Rattle.std.proofs.lemmas.Int.{to_z-of_z}
-use Rattle.ptp_profile.specs.declared.port.Fate.{Fate}
-use Rattle.ptp_profile.specs.declared.timing.Measure.{Measure}
 use Rattle.ptp_profile.specs.Port.{Port, timing_fate, timing_measure, after_timing}
 use Rattle.ptp_profile.specs.Frames.{delay_response_by}
 use Rattle.port_engine.specs.Engine.{IsEngineOf, frames_for}
