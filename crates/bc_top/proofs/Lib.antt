@@ -1,5 +1,4 @@
 pub mod Best
-pub mod BestPort
 pub mod Cursors
 pub mod Earliest
 pub mod PortsOnly
@@ -8,11 +7,8 @@ pub mod DueInputs
 pub mod OnTheWay
 pub mod Taken
 pub mod AtPorts
+pub mod Building
 pub mod Lines
 pub mod Texts
-pub mod SilentRun
-pub mod SilentWorld
-pub mod Reached
+pub mod Stood
 pub mod Exact
-pub mod Early
-pub mod Quiet

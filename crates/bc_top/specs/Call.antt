@@ -1,12 +1,17 @@
--- A call of the program, and the transcript that it owes.
-use Rattle.std.specs.Prelude.{◌≡◌, ℕ, List}
+-- A call of the program, the transcript that it owes, and why it owes none.
+use Rattle.std.specs.Prelude.{◌≡◌, ◌⊎◌, ℕ, List}
+use Rattle.text_io.specs.declared.reason.Reason.{Reason}
+use Rattle.text_io.specs.declared.reason.Reason.TheVariants.{Unbuilt}
 use Rattle.bc_history.specs.declared.scenario.Scenario.{Scenario}
 use Rattle.bc_history.specs.declared.entry.Run.{Run}
-use Rattle.bc_history.specs.Silent.{StandsFor}
-use Rattle.bc_history.specs.World.{IsWorld}
+use Rattle.bc_history.specs.ScenarioText.{Stands, IsFirstFault}
+use Rattle.bc_history.specs.World.{IsWorld, IsEnd, Events}
 use Rattle.bc_history.specs.Text.{text_of}
 use Rattle.bc_top.specs.Reading.{Reads}
 use Rattle.bc_top.specs.Writing.{Writes}
+use Rattle.bc_top.specs.Built.{IsBuilt, IsUnbuilt}
+use Rattle.bc_top.specs.declared.outcome.NoTranscript.{NoTranscript}
+use Rattle.bc_top.specs.declared.outcome.NoTranscript.TheVariants.{Refused, Events as Too_many, NoMemory}
 
 -- the words, and source and sink before the call and after it
 pub record Call : Type 0 where
@@ -14,10 +19,36 @@ pub record Call : Type 0 where
   pub reads : Reads
   pub writes : Writes
 
--- the text stands for a scenario, and out is the text of its run
+-- the text stands for a scenario that is built, and out is the text of its run
 pub record IsTranscriptOf (text out : List ℕ) : Type 0 where
   pub scenario : Scenario
   pub run : Run
-  pub stands : StandsFor text scenario
+  pub stands : Stands text scenario
+  pub built : IsBuilt scenario
   pub world : IsWorld scenario run
   pub spelled : out ≡ text_of run
+
+-- the text stands for a scenario that is not built; the line is the text as a whole
+pub record IsOfUnbuilt (text : List ℕ) (line : ℕ) (reason : Reason) : Type 0 where
+  pub scenario : Scenario
+  pub stands : Stands text scenario
+  pub unbuilt : IsUnbuilt scenario
+  pub whole : line ≡ 0
+  pub cause : reason ≡ Unbuilt
+
+-- a text is refused by its first fault, or as it is not built
+abbrev pub IsRefusal : List ℕ → ℕ → Reason → Type 0
+IsRefusal text line reason = IsFirstFault text line reason ⊎ IsOfUnbuilt text line reason
+
+-- the text stands for a scenario that is built, and that ends at one event too many
+pub record IsOverfull (text : List ℕ) : Type 0 where
+  pub scenario : Scenario
+  pub stands : Stands text scenario
+  pub built : IsBuilt scenario
+  pub events : IsEnd scenario Events
+
+-- why a text has no transcript; want of memory has no cause that is told
+abbrev pub IsWithout : List ℕ → NoTranscript → Type 0
+IsWithout text (Refused line reason) = IsRefusal text line reason
+IsWithout text Too_many = IsOverfull text
+IsWithout text NoMemory = Unit {0}

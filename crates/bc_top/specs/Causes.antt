@@ -1,14 +1,12 @@
 -- What a call ends with, and why.
-use Rattle.std.specs.Prelude.{◌≡◌, ℕ, List}
+use Rattle.std.specs.Prelude.{ℕ, List}
 use Rattle.text_io.specs.declared.reason.Reason.{Reason}
-use Rattle.text_io.specs.declared.reason.Reason.TheVariants.{Unbuilt}
-use Rattle.bc_history.specs.Silent.{StandsForNone}
 use Rattle.bc_top.specs.Words.{IsReplay}
 use Rattle.bc_top.specs.Reading.{IsUnread, IsReadPart, IsReadWhole, IsReadTooFar, IsReadFault}
 use Rattle.bc_top.specs.Writing.{IsUnwritten, IsWritten, IsWriteFault}
-use Rattle.bc_top.specs.Call.{Call, IsTranscriptOf}
+use Rattle.bc_top.specs.Call.{Call, IsTranscriptOf, IsRefusal, IsOverfull}
 use Rattle.bc_top.specs.declared.outcome.End.{End}
-use Rattle.bc_top.specs.declared.outcome.End.TheVariants.{Done, Usage, Refused, ReadFault, WriteFault, NoMemory, TooLong}
+use Rattle.bc_top.specs.declared.outcome.End.TheVariants.{Done, Usage, Refused, ReadFault, WriteFault, Events, NoMemory, TooLong}
 
 -- the source was read to its end, and the transcript of what was read was written
 pub record IsDone (c : Call) : Type 0 where
@@ -25,14 +23,12 @@ pub record IsUsage (c : Call) : Type 0 where
   pub unread : IsUnread c.reads
   pub unwritten : IsUnwritten c.writes
 
--- the source was read to its end, and what was read stands for no scenario
+-- the source was read to its end, and what was read is refused: by its first fault, or as a scenario that is not built
 pub record IsRefused (c : Call) (line : ℕ) (reason : Reason) : Type 0 where
   pub replay : IsReplay c.words
   pub text : List ℕ
   pub read : IsReadWhole c.reads text
-  pub none : StandsForNone text
-  pub whole : line ≡ 0
-  pub unbuilt : reason ≡ Unbuilt
+  pub refusal : IsRefusal text line reason
   pub unwritten : IsUnwritten c.writes
 
 -- a read failed
@@ -49,6 +45,14 @@ pub record IsFaultOfWriting (c : Call) : Type 0 where
   pub out : List ℕ
   pub transcript : IsTranscriptOf text out
   pub failed : IsWriteFault c.writes out
+
+-- the source was read to its end, and the scenario of what was read ends at one event too many
+pub record IsTooMany (c : Call) : Type 0 where
+  pub replay : IsReplay c.words
+  pub text : List ℕ
+  pub read : IsReadWhole c.reads text
+  pub overfull : IsOverfull text
+  pub unwritten : IsUnwritten c.writes
 
 -- the source gave one octet more than a text may have
 pub record IsTooLong (c : Call) : Type 0 where
@@ -69,5 +73,6 @@ IsCaused c Usage = IsUsage c
 IsCaused c (Refused line reason) = IsRefused c line reason
 IsCaused c ReadFault = IsFaultOfReading c
 IsCaused c WriteFault = IsFaultOfWriting c
+IsCaused c Events = IsTooMany c
 IsCaused c NoMemory = IsNoMemory c
 IsCaused c TooLong = IsTooLong c

@@ -1,14 +1,18 @@
 -- Which end a call has, but for memory, where no fault rose and the source tells what is left in it.
 use Rattle.std.specs.Prelude.{◌≡◌, ◌⊎◌, ℕ, ◌<◌, ◌≤◌, List, length, Some}
 use Rattle.text_io.specs.Outside.{Rose}
+use Rattle.text_io.specs.declared.reason.Reason.{Reason}
 use Rattle.text_io.specs.declared.reason.Reason.TheVariants.{Unbuilt}
 use Rattle.bc_history.specs.declared.scenario.Scenario.{Scenario}
-use Rattle.bc_history.specs.Silent.{StandsFor, StandsForNone}
+use Rattle.bc_history.specs.declared.entry.Run.{Run}
+use Rattle.bc_history.specs.ScenarioText.{Stands, IsFirstFault}
+use Rattle.bc_history.specs.World.{IsWorld, IsEnd, Events as Too_many}
 use Rattle.bc_top.specs.Words.{IsReplay}
 use Rattle.bc_top.specs.Reading.{most_octets}
+use Rattle.bc_top.specs.Built.{IsBuilt, IsUnbuilt}
 use Rattle.bc_top.specs.Call.{Call}
 use Rattle.bc_top.specs.declared.outcome.End.{End}
-use Rattle.bc_top.specs.declared.outcome.End.TheVariants.{Done, Refused, NoMemory, TooLong}
+use Rattle.bc_top.specs.declared.outcome.End.TheVariants.{Done, Refused, Events, NoMemory, TooLong}
 
 -- the end is the one that is due, or there was no memory
 abbrev pub EndsBy : End → End → Type 0
@@ -16,8 +20,10 @@ EndsBy due end = (end ≡ due) ⊎ (end ≡ NoMemory)
 
 -- the end that is due at a text
 pub record IsEndAt (text : List ℕ) (end : End) : Type 0 where
-  pub done : length text ≤ most_octets → (s : Scenario) → StandsFor text s → EndsBy Done end
-  pub refused : length text ≤ most_octets → StandsForNone text → EndsBy (Refused 0 Unbuilt) end
+  pub done : length text ≤ most_octets → (s : Scenario) (run : Run) → Stands text s → IsBuilt s → IsWorld s run → EndsBy Done end
+  pub events : length text ≤ most_octets → (s : Scenario) → Stands text s → IsBuilt s → IsEnd s Too_many → EndsBy Events end
+  pub unbuilt : length text ≤ most_octets → (s : Scenario) → Stands text s → IsUnbuilt s → EndsBy (Refused 0 Unbuilt) end
+  pub refused : length text ≤ most_octets → (line : ℕ) (reason : Reason) → IsFirstFault text line reason → EndsBy (Refused line reason) end
   pub too_long : most_octets < length text → EndsBy TooLong end
 
 abbrev pub IsComplete : Call → End → Type 0

@@ -2,13 +2,11 @@ pub mod Words
 pub mod Status
 pub mod Reading
 pub mod Writing
-pub mod Spelled
-pub mod Due
 pub mod Ticks
 pub mod Cursor
 pub mod Loop
-pub mod Ports
-pub mod Silent
+pub mod Built
+pub mod Replaying
 pub mod Call
 pub mod Causes
 pub mod Complete

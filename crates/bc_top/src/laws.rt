@@ -1,4 +1,4 @@
-ghost use Rattle.std.specs.Prelude.{◌≡◌, ◌<◌, ◌≤◌, ℕ, ◌+◌, List, [], ◌∷◌, length, replicate, Option, None, Some, slice_get, slice_set};
+ghost use Rattle.std.specs.Prelude.{◌≡◌, ◌<◌, ◌≤◌, ◌⊎◌, ℕ, ◌+◌, List, [], ◌∷◌, length, replicate, Option, None, Some, slice_get, slice_set};
 ghost use Rattle.ptp_base.specs.declared.port.PortConf.{PortConf};
 ghost use Rattle.ptp_profile.specs.declared.port.Timer.{Timer};
 ghost use Rattle.ptp_profile.specs.Timers.{due_of};
@@ -14,6 +14,7 @@ ghost use Rattle.bc_history.specs.Opening.{open_follower};
 ghost use Rattle.bc_history.specs.Step.{state_of};
 ghost use Rattle.bc_history.specs.Next.{input_of, port_input, record_or_timer, records_of};
 ghost use Rattle.bc_history.specs.World.{port_reading, Event, Ended, Finished, Events, IsEnd, IsWorld, next_status, stepped};
+ghost use Rattle.bc_top.specs.Built.{IsBuilt, IsUnbuilt};
 ghost use Rattle.bc_top.specs.Cursor.{AreCursors, IsCursor, IsNextOf, taken_by};
 ghost use Rattle.bc_top.specs.Loop.{AreOfPorts, IsDueAt, IsFirstDue, IsNoneDue, IsOnTheWay, IsQuiet, empty_logs, entry_by, logs_after, loop_run, ports_after, reading_by, ticks_of, waiting_world};
 ghost use Rattle.bc_top.specs.Ticks.{IsFirstTick, IsNoneTick};
@@ -79,4 +80,10 @@ pub fn ports_go_by_their_cursors()
     ensures taken { (s : Scenario) (entries : List Entry) (cursors : List ℕ) (e : Entry) (k c next : ℕ) (r : Record) → AreCursors s entries cursors
         → slice_get cursors k ≡ Some c → slice_get s.records c ≡ Some r → e.input ≡ input_of (k + 1) r.tick r.what → IsNextOf s.records (k + 1) (c + 1) next
         → AreCursors s (e ∷ entries) (slice_set cursors k next) }
+{}
+
+/// A scenario is built, or it has one of the causes for which it is not, and never both.
+pub fn a_scenario_is_built_or_not()
+    ensures either { (s : Scenario) → IsBuilt s ⊎ IsUnbuilt s }
+    ensures apart { (s : Scenario) → IsBuilt s → ¬ (IsUnbuilt s) }
 {}

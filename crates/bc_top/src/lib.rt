@@ -4,11 +4,10 @@
 pub mod cursor;
 pub mod due;
 pub mod laws;
+mod built;
 mod outcome;
 mod read;
 mod replay;
-mod run;
-mod scenario;
 mod top;
 mod transcript;
 mod words;

@@ -1,5 +1,5 @@
 ghost use Rattle.std.specs.Prelude.{◌≡◌};
-ghost use Rattle.bc_top.specs.Status.{status_of};
+ghost use Rattle.bc_top.specs.Status.{status_of, end_without};
 
 use text_io::Reason;
 
@@ -21,6 +21,8 @@ pub enum End {
     ReadFault,
     /// A write failed.
     WriteFault,
+    /// 131,071 entries were held and another event was due.
+    Events,
     /// There was no memory.
     NoMemory,
     /// The source gave more than 33,554,432 octets.
@@ -38,8 +40,36 @@ impl End {
             End::Refused { .. } => 2,
             End::ReadFault => 3,
             End::WriteFault => 4,
+            End::Events => 5,
             End::NoMemory => 6,
             End::TooLong => 8,
+        }
+    }
+}
+
+/// Why a text has no transcript.
+#[derive(Clone, Copy, Debug, PartialEq, Eq)]
+pub enum NoTranscript {
+    /// The text is no scenario, or line 0, its scenario is not built.
+    Refused { line: u32, reason: Reason },
+    /// 131,071 entries were held and another event was due.
+    Events,
+    /// There was no memory.
+    NoMemory,
+}
+
+impl NoTranscript {
+    /// How a call ends that has no transcript.
+    pub fn end(&self) -> End
+        ensures { result ≡ end_without self.now }
+    {
+        match self {
+            NoTranscript::Refused { line, reason } => End::Refused {
+                line: *line,
+                reason: *reason,
+            },
+            NoTranscript::Events => End::Events,
+            NoTranscript::NoMemory => End::NoMemory,
         }
     }
 }

@@ -1,30 +1,62 @@
-ghost use Rattle.std.specs.Prelude.{◌≡◌, ℕ, ◌++◌, List, map, IfOk, MatchOption, string_bytes};
-ghost use Rattle.bc_history.specs.Silent.{StandsForNone};
-ghost use Rattle.bc_top.specs.Call.{Call, IsTranscriptOf};
+ghost use Rattle.std.specs.Prelude.{◌≡◌, ℕ, ◌≤◌, ◌++◌, List, length, map, IfOk, IfErr, string_bytes};
+ghost use Rattle.bc_history.specs.ScenarioText.{Stands};
+ghost use Rattle.bc_history.specs.ScenarioRules.{IsScenario};
+ghost use Rattle.bc_top.specs.Built.{IsBuilt};
+ghost use Rattle.bc_top.specs.Reading.{most_octets};
+ghost use Rattle.bc_top.specs.Call.{Call, IsTranscriptOf, IsWithout};
 ghost use Rattle.bc_top.specs.Causes.{IsCaused};
 ghost use Rattle.bc_top.specs.Complete.{IsComplete};
 
-use crate::outcome::End;
+use crate::built::is_built;
+use crate::outcome::{End, NoTranscript};
 use crate::read::{ReadError, read_to_end};
-use crate::replay::replay;
-use crate::scenario::read_scenario;
+use crate::replay::{ReplayError, replay};
 use crate::transcript::transcript;
 use crate::words::is_replay;
 use crate::write::write_all;
-use ptp_base::{NoMemory, Octets};
+use bc_config::{Refusal, scenario};
+use bc_history::Scenario;
+use ptp_base::Octets;
 use std::alloc::Global;
 use text_io::{Reason, Sink, Source};
 
-/// The transcript of the run of the scenario that the text stands for, if any.
-fn transcript_of(alloc: Global, text: &[u8]) -> Result<Option<Octets>, NoMemory>
-    ensures { IfOk result (λ found. MatchOption found (StandsForNone text.now) (λ out. IsTranscriptOf text.now out)) }
+/// The scenario that the text stands for, where it is built.
+fn built_scenario(alloc: Global, text: &[u8]) -> Result<Scenario, NoTranscript>
+    requires short { length text.now ≤ most_octets }
+    ensures stands { IfOk result (λ s. Stands text.now s) }
+    ensures kept { IfOk result IsScenario }
+    ensures built { IfOk result IsBuilt }
+    ensures without { IfErr result (IsWithout text.now) }
 {
-    match read_scenario(alloc, text)? {
-        None => Ok(None),
-        Some(scenario) => {
-            let run = replay(alloc, &scenario)?;
-            Ok(Some(transcript(alloc, &run)?))
-        }
+    let s = match scenario(alloc, text) {
+        Ok(s) => s,
+        Err(Refusal::Line { line, reason }) => return Err(NoTranscript::Refused { line, reason }),
+        Err(Refusal::NoMemory) => return Err(NoTranscript::NoMemory),
+    };
+    if is_built(&s) {
+        return Ok(s);
+    }
+    Err(NoTranscript::Refused {
+        line: 0,
+        reason: Reason::Unbuilt,
+    })
+}
+
+/// The transcript of the run of the scenario that the text stands for.
+fn transcript_of(alloc: Global, text: &[u8]) -> Result<Octets, NoTranscript>
+    requires short { length text.now ≤ most_octets }
+    ensures transcript { IfOk result (λ out. IsTranscriptOf text.now out) }
+    ensures without { IfErr result (IsWithout text.now) }
+{
+    let s = built_scenario(alloc, text)?;
+    let run = match replay(alloc, &s) {
+        Ok(run) => run,
+        Err(ReplayError::NoMemory) => return Err(NoTranscript::NoMemory),
+        Err(ReplayError::Events) => return Err(NoTranscript::Events),
+    };
+    match transcript(alloc, &run) {
+        Ok(out) => Ok(out),
+        Err(_) => Err(NoTranscript::NoMemory),
     }
 }
 
@@ -46,15 +78,11 @@ fn serve<S: Source, K: Sink>(alloc: Global, words: &[String], source: &mut S, si
         Err(ReadError::NoMemory) => return End::NoMemory,
     };
     match transcript_of(alloc, &text) {
-        Err(_) => End::NoMemory,
-        Ok(None) => End::Refused {
-            line: 0,
-            reason: Reason::Unbuilt,
-        },
-        Ok(Some(out)) => match write_all(sink, out.items()) {
+        Ok(out) => match write_all(sink, out.items()) {
             Ok(()) => End::Done,
             Err(_) => End::WriteFault,
         },
+        Err(without) => without.end(),
     }
 }
 

@@ -1,0 +1,122 @@
+-- A scenario is built or not, and never both.
+use Rattle.std.proofs.Common.{◌≡◌, ◌≢◌, ◌⊎◌, ℕ, zero, suc, ◌<◌, ◌≤◌, Bool, true, false, List, [], ◌∷◌, length, take, get_or, Some, slice_get, Result, Ok, Err, refl, sym, ◌∙◌, subst, inl, inr, arith}
+use Rattle.std.specs.Prelude.{All}
+use Rattle.std.proofs.lemmas.Bool.{cases_lt}
+use Rattle.std.proofs.lemmas.List.{take_all}
+use Rattle.std.proofs.lemmas.List.Elements.{All-nil, All-cons}
+use Rattle.std.proofs.lemmas.Option.{slice_get_within, get_or_from_slice_get}
+use Rattle.ptp_profile.specs.declared.message.Message.{Message}
+use Rattle.ptp_profile.specs.declared.message.Body.{Body}
+use Rattle.ptp_profile.specs.declared.message.Body.TheVariants.{Sync, DelayReq, FollowUp, DelayResp, Announce}
+use Rattle.ptp_profile.specs.declared.message.Reject.{Reject}
+use Rattle.bc_history.specs.declared.scenario.Options.{Options}
+use Rattle.bc_history.specs.declared.scenario.Happening.{Happening}
+use Rattle.bc_history.specs.declared.scenario.Happening.TheVariants.{Frame, Down, Up}
+use Rattle.bc_history.specs.declared.scenario.Record.{Record}
+use Rattle.bc_history.specs.declared.scenario.Scenario.{Scenario}
+use Rattle.bc_history.specs.Own.{read_frame}
+use Rattle.bc_top.specs.Loop.{IsQuiet}
+use Rattle.bc_top.specs.Built.{IsTiming, IsReadTiming, IsTimed, IsUntimed, IsBuilt, HasFollowers, HasTiming, IsUnbuilt}
+
+-- ---- one or the other
+
+timing_or_not : (body : Body) → IsTiming body ⊎ (¬ (IsTiming body))
+timing_or_not (Sync origin) = inl tt
+timing_or_not (DelayReq origin) = inr (λ h. h)
+timing_or_not (FollowUp precise) = inl tt
+timing_or_not (DelayResp receive requesting) = inl tt
+timing_or_not (Announce origin said) = inr (λ h. h)
+
+read_or_not : (read : Result Message Reject) → IsReadTiming read ⊎ (¬ (IsReadTiming read))
+read_or_not (Err reject) = inr (λ h. h)
+read_or_not (Ok message) = timing_or_not message.body
+
+timed_or_not : (o : Options) (what : Happening) → IsTimed o what ⊎ IsUntimed o what
+timed_or_not o (Frame octets) = read_or_not (read_frame o octets)
+timed_or_not o Down = inr (λ h. h)
+timed_or_not o Up = inr (λ h. h)
+
+-- a record of a list brings a frame of timing
+record IsTimedAmong (o : Options) (records : List Record) : Type 0 where
+  index : ℕ
+  brought : Record
+  there : slice_get records index ≡ Some brought
+  timed : IsTimed o brought.what
+
+timed-behind : (o : Options) (r : Record) (records : List Record) → IsTimedAmong o records → IsTimedAmong o (r ∷ records)
+timed-behind o r records t = record { index = suc t.index; brought = t.brought; there = t.there; timed = t.timed }
+
+all_or_one : (o : Options) (records : List Record) → All (λ (r : Record). IsUntimed o r.what) records ⊎ IsTimedAmong o records
+all_or_one o [] = inl (All-nil (λ (r : Record). IsUntimed o r.what))
+all_or_one o (r ∷ records) = elim (timed_or_not o r.what) [
+  | inl timed ↦ inr (record { index = 0; brought = r; there = refl; timed = timed })
+  | inr untimed ↦ elim (all_or_one o records) [
+    | inl all ↦ inl (All-cons (λ (r : Record). IsUntimed o r.what) r records untimed all)
+    | inr one ↦ inr (timed-behind o r records one)
+  ]
+]
+
+empty_or_not : {X : Type 0} (xs : List X) → (xs ≡ []) ⊎ (xs ≢ [])
+empty_or_not [] = inl refl
+empty_or_not (x ∷ xs) = inr (λ e. cc)
+
+followed_or_not : (s : Scenario) → ((length s.clocks < 2) ⊎ (s.options.duration < s.options.follow_interval)) ⊎ HasFollowers s
+followed_or_not s = elim (cases_lt (length s.clocks) 2) [
+  | inl few ↦ inl (inl few)
+  | inr more ↦ elim (cases_lt s.options.duration s.options.follow_interval) [
+    | inl short ↦ inl (inr short)
+    | inr due ↦ inr (record { clocks = more; due = due })
+  ]
+]
+
+-- of all causes, the first
+pub built_or_not : (s : Scenario) → IsBuilt s ⊎ IsUnbuilt s
+built_or_not s = elim (empty_or_not s.queries) [
+  | inr asked ↦ inr (inl asked)
+  | inl unasked ↦ elim (empty_or_not s.turns) [
+    | inr scheduled ↦ inr (inr (inl scheduled))
+    | inl unscheduled ↦ elim (followed_or_not s) [
+      | inr followed ↦ inr (inr (inr (inl followed)))
+      | inl unfollowed ↦ elim (all_or_one s.options s.records) [
+        | inr one ↦ inr (inr (inr (inr (record { index = one.index; brought = one.brought; there = one.there; timed = one.timed }))))
+        | inl all ↦ inl (record { quiet = record { unscheduled = unscheduled; unasked = unasked; unfollowed = unfollowed }; untimed = all })
+      ]
+    ]
+  ]
+]
+
+-- ---- never both
+
+-- what holds of all elements holds of the one at an index
+pub all-get : {X : Type 0} (P : X → Type 0) (xs : List X) (i : ℕ) (x : X) → All P xs → slice_get xs i ≡ Some x → P x
+all-get P xs i x all there = subst P (get_or_from_slice_get xs i x x there) (all i x (slice_get_within xs i x there))
+
+not_followed : (s : Scenario) → (length s.clocks < 2) ⊎ (s.options.duration < s.options.follow_interval) → ¬ (HasFollowers s)
+not_followed s (inl few) f = omega (arith, few, f.clocks)
+not_followed s (inr short) f = omega (arith, short, f.due)
+
+pub never_both : (s : Scenario) → IsBuilt s → ¬ (IsUnbuilt s)
+never_both s built (inl asked) = asked built.quiet.unasked
+never_both s built (inr (inl scheduled)) = scheduled built.quiet.unscheduled
+never_both s built (inr (inr (inl followed))) = not_followed s built.quiet.unfollowed followed
+never_both s built (inr (inr (inr one))) = all-get (λ (r : Record). IsUntimed s.options r.what) s.records one.index one.brought built.untimed one.there one.timed
+
+-- ---- what the code found
+
+pub untimed_here : (o : Options) (r x : Record) (b : Bool) → (IsTimed o r.what → b ≡ true) → b ≡ false → r ≡ x → IsUntimed o x.what
+untimed_here o r x b is none same = λ timed.
+    let both : true ≡ false = sym (is (subst (λ (y : Record). IsTimed o y.what) (sym same) timed)) ∙ none in
+    cc
+
+pub all_untimed : (o : Options) (records : List Record) (n : ℕ) → length records ≤ n → All (λ (r : Record). IsUntimed o r.what) (take n records) → All (λ (r : Record). IsUntimed o r.what) records
+all_untimed o records n all h = subst (All (λ (r : Record). IsUntimed o r.what)) (take_all n records all) h
+
+pub one_timed : (o : Options) (records : List Record) (i : ℕ) (r : Record) → i < length records → r ≡ get_or records i r → IsTimed o r.what → ¬ (All (λ (x : Record). IsUntimed o x.what) records)
+one_timed o records i r lt here timed = λ all. all i r lt (subst (λ (x : Record). IsTimed o x.what) here timed)
+
+-- what is not built is unbuilt
+pub otherwise_unbuilt : (s : Scenario) (b : Bool) → (IsBuilt s → b ≡ true) → b ≡ false → IsUnbuilt s
+otherwise_unbuilt s b built none = elim (built_or_not s) [
+  | inl is ↦ absurd (let both : true ≡ false = sym (built is) ∙ none in cc)
+  | inr is ↦ is
+]
