@@ -1,5 +1,5 @@
 -- The next input of a port by its cursor, and what it is of.
-use Rattle.std.proofs.Common.{◌≡◌, ◌≢◌, ℕ, ◌+◌, ◌<◌, Bool, true, false, cond, refl, sym, ap, subst, ◌∙◌, eqb, ltb, arith, inl, inr, List, [], ◌∷◌, length, filter, set, get_or-set_other, get_or-set_same, Option, Some, None, slice_get, eq-eqb, ne_eqb}
+use Rattle.std.proofs.Common.{◌≡◌, ◌≢◌, ℕ, ◌+◌, ◌<◌, Bool, true, false, cond, refl, sym, ap, subst, ◌∙◌, eqb, arith, inl, inr, List, [], ◌∷◌, length, filter, set, get_or-set_other, get_or-set_same, Option, Some, slice_get, eq-eqb, ne_eqb}
 use Rattle.std.proofs.lemmas.Bool.Decides.{eqb_tells}
 use Rattle.std.proofs.lemmas.Option.{same_Some, slice_get_within, get_or_from_slice_get, slice_get-get_or}
 use Rattle.std.proofs.Math.ListN.{length-set}
@@ -21,6 +21,7 @@ use Rattle.bc_history.specs.World.{port_reading}
 use Rattle.bc_history.proofs.Faces.{port-state_of}
 use Rattle.bc_top.specs.Cursor.{is_record_of, taken_by, IsNextOf, IsCursor, AreCursors}
 use Rattle.bc_top.specs.Loop.{IsDueAt, ports_after, waiting_world, reading_by}
+use Rattle.bc_top.proofs.NextInputs.{next-is}
 use Rattle.bc_top.proofs.Cursors.{Cursor-opening, Cursor-next, Cursor-record}
 use Rattle.bc_top.proofs.Taken.{taken-state_of}
 
@@ -31,21 +32,12 @@ port-happening p tick (Frame_record octets) = refl
 port-happening p tick Down_record = refl
 port-happening p tick Up_record = refl
 
-port-earlier : (p : ℕ) (b : Bool) (x y input : Input) → port_of x ≡ Some p → port_of y ≡ Some p → cond b (Some x) (Some y) ≡ Some input → port_of input ≡ Some p
-port-earlier p true x y input first second is = ap port_of (sym (same_Some x input is)) ∙ first
-port-earlier p false x y input first second is = ap port_of (sym (same_Some y input is)) ∙ second
-
-port-next : (p : ℕ) (r : Option Record) (t : Option (ℕ × Timer)) (input : Input) → record_or_timer p r t ≡ Some input → port_of input ≡ Some p
-port-next p None None input is = cc
-port-next p (Some r) None input is = ap port_of (sym (same_Some (input_of p r.tick r.what) input is)) ∙ port-happening p r.tick r.what
-port-next p None (Some t) input is = ap port_of (sym (same_Some (Timed p t.0 t.1) input is))
-port-next p (Some r) (Some t) input is = port-earlier p (ltb t.0 r.tick) (Timed p t.0 t.1) (input_of p r.tick r.what) input refl (port-happening p r.tick r.what) is
-
 -- what is due at a port is of the port's number
 pub port-due : (s : Scenario) (entries : List Entry) (k : ℕ) (input : Input) → IsDueAt s (ports_after s entries) k input → port_of input ≡ Some (k + 1)
 port-due s entries k input due =
     let h = due.port in
-    port-next h.port.id.port (slice_get (records_of s h.port.id.port) h.taken) (due_of h.port.timers) input due.next
+    let p = h.port.id.port in
+    next-is (λ (i : Input). port_of i ≡ Some p) p (slice_get (records_of s p) h.taken) (due_of h.port.timers) input (λ r there. port-happening p r.tick r.what) (λ tick timer. refl) due.next
     ∙ ap (λ (p : ℕ). Some p) (port-state_of s entries k h due.there).number
 
 -- a reading is one of the clock that the scenario has the port on

@@ -1,5 +1,5 @@
 -- A scenario is built or not, and never both.
-use Rattle.std.proofs.Common.{◌≡◌, ◌≢◌, ◌⊎◌, ℕ, zero, suc, ◌<◌, ◌≤◌, Bool, true, false, List, [], ◌∷◌, length, take, get_or, Some, slice_get, Result, Ok, Err, refl, sym, ◌∙◌, subst, inl, inr, arith}
+use Rattle.std.proofs.Common.{◌≡◌, ◌≢◌, ◌⊎◌, ℕ, suc, ◌<◌, ◌≤◌, Bool, true, false, List, [], ◌∷◌, length, take, get_or, Some, slice_get, Result, Ok, Err, refl, sym, ◌∙◌, subst, inl, inr, arith}
 use Rattle.std.specs.Prelude.{All}
 use Rattle.std.proofs.lemmas.Bool.{cases_lt}
 use Rattle.std.proofs.lemmas.List.{take_all}
@@ -15,8 +15,7 @@ use Rattle.bc_history.specs.declared.scenario.Happening.TheVariants.{Frame, Down
 use Rattle.bc_history.specs.declared.scenario.Record.{Record}
 use Rattle.bc_history.specs.declared.scenario.Scenario.{Scenario}
 use Rattle.bc_history.specs.Own.{read_frame}
-use Rattle.bc_top.specs.Loop.{IsQuiet}
-use Rattle.bc_top.specs.Built.{IsTiming, IsReadTiming, IsTimed, IsUntimed, IsBuilt, HasFollowers, HasTiming, IsUnbuilt}
+use Rattle.bc_top.specs.Built.{IsTiming, IsReadTiming, IsTimed, IsUntimed, IsBuilt, HasFollowers, IsUnbuilt}
 
 -- ---- one or the other
 

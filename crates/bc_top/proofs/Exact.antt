@@ -1,16 +1,13 @@
 -- Where no fault rose and the source tells what is left, the causes leave one end, and want of memory.
-use Rattle.std.proofs.Common.{◌≡◌, ◌⊎◌, ℕ, ◌≤◌, List, ◌++◌, length, Option, Some, None, refl, sym, ◌∙◌, ap, subst, inl, inr, arith, length-append}
+use Rattle.std.proofs.Common.{◌≡◌, ℕ, ◌≤◌, List, ◌++◌, length, Option, Some, None, refl, sym, ◌∙◌, ap, subst, inl, inr, arith, length-append}
 use Rattle.std.proofs.lemmas.List.{append-nil}
 use Rattle.std.specs.Io.KnownBytes.{Consumes, IsAtEnd}
 use Rattle.text_io.specs.declared.reason.Reason.{Reason}
 use Rattle.text_io.specs.declared.reason.Reason.TheVariants.{Unbuilt}
-use Rattle.bc_history.specs.declared.scenario.Scenario.{Scenario}
-use Rattle.bc_history.specs.ScenarioText.{Stands, IsFirstFault}
-use Rattle.bc_top.specs.Built.{IsBuilt, IsUnbuilt}
 use Rattle.bc_top.specs.Reading.{Reads, AreRead, IsReadWhole, most_octets}
 use Rattle.bc_top.specs.Call.{Call, IsTranscriptOf, IsRefusal, IsOverfull}
 use Rattle.bc_top.specs.Causes.{IsCaused}
-use Rattle.bc_top.specs.Complete.{EndsBy, IsEndAt, IsComplete}
+use Rattle.bc_top.specs.Complete.{IsEndAt, IsComplete}
 use Rattle.bc_top.specs.declared.outcome.End.{End}
 use Rattle.bc_top.specs.declared.outcome.End.TheVariants.{Done, Usage, Refused, ReadFault, WriteFault, Events, NoMemory, TooLong}
 use Rattle.bc_top.proofs.Stood.{stands-faultless, one_line, one_reason, built_apart, ends_apart}

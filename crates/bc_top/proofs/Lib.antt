@@ -1,6 +1,7 @@
 pub mod Best
 pub mod Cursors
 pub mod Earliest
+pub mod NextInputs
 pub mod PortsOnly
 pub mod Turns
 pub mod DueInputs
@@ -8,6 +9,7 @@ pub mod OnTheWay
 pub mod Taken
 pub mod AtPorts
 pub mod Building
+pub mod Untimed
 pub mod Lines
 pub mod Texts
 pub mod Stood

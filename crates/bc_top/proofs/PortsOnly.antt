@@ -1,12 +1,10 @@
 -- After inputs of ports alone the followers are as they began, and no query came.
-use Rattle.std.proofs.Common.{◌≡◌, ℕ, zero, suc, ◌+◌, ◌*◌, Bool, true, false, cond, refl, ap, subst, ◌∙◌, eqb, ltb, arith, slice_get, List, [], ◌∷◌, length, replicate, Option, Some, None}
-use Rattle.ptp_profile.specs.declared.port.Timer.{Timer}
+use Rattle.std.proofs.Common.{◌≡◌, ℕ, zero, suc, ◌+◌, ◌*◌, Bool, true, false, cond, refl, ap, ◌∙◌, eqb, arith, slice_get, List, [], ◌∷◌, length, replicate, Some}
 use Rattle.bc_history.specs.declared.entry.Entry.{Entry}
 use Rattle.bc_history.specs.declared.entry.Input.{Input}
 use Rattle.bc_history.specs.declared.entry.Input.TheVariants.{Frame, Timed, Down, Up, Report, Turn, Sampled, Query}
 use Rattle.bc_history.specs.declared.scenario.Options.{Options}
 use Rattle.bc_history.specs.declared.scenario.Scenario.{Scenario}
-use Rattle.bc_history.specs.declared.scenario.Record.{Record}
 use Rattle.bc_history.specs.declared.scenario.Happening.{Happening}
 use Rattle.bc_history.specs.declared.scenario.Happening.TheVariants.{Frame as Frame_record, Down as Down_record, Up as Up_record}
 use Rattle.bc_history.specs.State.{HubPort, Follower, Core, Roles}
@@ -16,8 +14,10 @@ use Rattle.bc_history.specs.Generations.{generation}
 use Rattle.bc_history.specs.Telling.{told, announced, posted_from}
 use Rattle.bc_history.specs.Step.{step, state_of, core_after, counted}
 use Rattle.ptp_profile.specs.Timers.{due_of}
-use Rattle.bc_history.specs.Next.{port_input, records_of, record_or_timer, input_of, turn_tick}
+use Rattle.bc_history.specs.Next.{port_input, records_of, input_of, turn_tick}
+use Rattle.hub_core.specs.Taking.{IsServed}
 use Rattle.bc_top.specs.Loop.{IsOfPort, AreOfPorts}
+use Rattle.bc_top.proofs.NextInputs.{next-is}
 
 told-of_port : (o : Options) (c : Core) (r : Roles) (input : Input) (fs : List Follower) → IsOfPort input → told o c r input fs ≡ fs
 unfolding told
@@ -80,15 +80,18 @@ of_port-happening p tick (Frame_record octets) = tt
 of_port-happening p tick Down_record = tt
 of_port-happening p tick Up_record = tt
 
-of_port-earlier : (b : Bool) (x y : Input) → IsOfPort x → IsOfPort y → (input : Input) → cond b (Some x) (Some y) ≡ Some input → IsOfPort input
-of_port-earlier true x y first second input is = let same : x ≡ input = cc in subst IsOfPort same first
-of_port-earlier false x y first second input is = let same : y ≡ input = cc in subst IsOfPort same second
-
-of_port-next : (p : ℕ) (r : Option Record) (t : Option (ℕ × Timer)) (input : Input) → record_or_timer p r t ≡ Some input → IsOfPort input
-of_port-next p None None input is = cc
-of_port-next p (Some r) None input is = let same : input_of p r.tick r.what ≡ input = cc in subst IsOfPort same (of_port-happening p r.tick r.what)
-of_port-next p None (Some t) input is = let same : Timed p t.0 t.1 ≡ input = cc in subst IsOfPort same tt
-of_port-next p (Some r) (Some t) input is = of_port-earlier (ltb t.0 r.tick) (Timed p t.0 t.1) (input_of p r.tick r.what) tt (of_port-happening p r.tick r.what) input is
-
 pub of_port-input : (s : Scenario) (h : HubPort) (input : Input) → port_input s h ≡ Some input → IsOfPort input
-of_port-input s h input is = of_port-next h.port.id.port (slice_get (records_of s h.port.id.port) h.taken) (due_of h.port.timers) input is
+of_port-input s h input is =
+    let p = h.port.id.port in
+    next-is IsOfPort p (slice_get (records_of s p) h.taken) (due_of h.port.timers) input (λ r there. of_port-happening p r.tick r.what) (λ tick timer. tt) is
+
+served-happening : (p tick : ℕ) (what : Happening) → IsServed (input_of p tick what)
+served-happening p tick (Frame_record octets) = tt
+served-happening p tick Down_record = tt
+served-happening p tick Up_record = tt
+
+-- and a record or a timer
+pub served-input : (s : Scenario) (h : HubPort) (input : Input) → port_input s h ≡ Some input → IsServed input
+served-input s h input is =
+    let p = h.port.id.port in
+    next-is IsServed p (slice_get (records_of s p) h.taken) (due_of h.port.timers) input (λ r there. served-happening p r.tick r.what) (λ tick timer. tt) is

@@ -1,8 +1,7 @@
 -- What a text stands for, and what ends there, is one.
-use Rattle.std.proofs.Common.{◌≡◌, ◌⊎◌, ℕ, ◌<◌, ◌≤◌, List, Some, None, refl, sym, ap, ◌∙◌, subst, inl, inr, arith}
+use Rattle.std.proofs.Common.{◌≡◌, ℕ, ◌<◌, List, Some, None, sym, ap, ◌∙◌, subst, inl, inr, arith}
 use Rattle.std.proofs.lemmas.Bool.{cases_lt}
 use Rattle.text_io.specs.declared.reason.Reason.{Reason}
-use Rattle.text_io.specs.declared.reason.Reason.TheVariants.{Unbuilt}
 use Rattle.text_io.specs.Lines.{lines_of_text}
 use Rattle.bc_history.specs.declared.scenario.Scenario.{Scenario}
 use Rattle.bc_history.specs.declared.entry.Run.{Run}
@@ -10,7 +9,6 @@ use Rattle.bc_history.specs.ScenarioText.{Stands, IsFirstFault, fault_at}
 use Rattle.bc_history.specs.World.{IsWorld, IsEnd, Finished, Events}
 use Rattle.bc_history.proofs.Ends.{one_end}
 use Rattle.bc_top.specs.Built.{IsBuilt, IsUnbuilt}
-use Rattle.bc_top.specs.Call.{IsTranscriptOf, IsOfUnbuilt, IsRefusal, IsOverfull}
 use Rattle.bc_top.proofs.Building.{never_both}
 
 pub one_scenario : (text : List ℕ) (s t : Scenario) → Stands text s → Stands text t → s ≡ t

@@ -1,5 +1,5 @@
 -- Which scenarios are built, and why others are not.
-use Rattle.std.specs.Prelude.{◌≡◌, ◌≢◌, ◌⊎◌, ℕ, ◌≤◌, List, [], length, slice_get, All, Some, Result, Ok, Err}
+use Rattle.std.specs.Prelude.{◌≡◌, ◌≢◌, ◌⊎◌, ℕ, ◌≤◌, [], length, slice_get, All, Some, Result, Ok, Err}
 use Rattle.ptp_profile.specs.declared.message.Message.{Message}
 use Rattle.ptp_profile.specs.declared.message.Body.{Body}
 use Rattle.ptp_profile.specs.declared.message.Body.TheVariants.{Sync, DelayReq, FollowUp, DelayResp, Announce}

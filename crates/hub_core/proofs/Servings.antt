@@ -75,7 +75,7 @@ if_forgotten : (b : Bool) (g : HubPort) → (cond b (record g { kept = [] }) g).
 if_forgotten true g = refl
 if_forgotten false g = refl
 
-acted-measured : (m steps : ℕ) (event : Option PortEvent) (g : HubPort) → (acted m steps event (reset_by event g)).measured ≡ g.measured
+pub acted-measured : (m steps : ℕ) (event : Option PortEvent) (g : HubPort) → (acted m steps event (reset_by event g)).measured ≡ g.measured
 acted-measured m steps None g = refl
 acted-measured m steps (Some FaultDetected) g = refl
 acted-measured m steps (Some FaultCleared) g = refl
