@@ -10,6 +10,8 @@ pub mod Taken
 pub mod AtPorts
 pub mod Building
 pub mod Untimed
+pub mod Serving
+pub mod Turning
 pub mod Lines
 pub mod Texts
 pub mod Stood

@@ -41,6 +41,7 @@ use Rattle.bc_history.specs.Next.{records_of, input_of, port_input, IsNext, IsNe
 use Rattle.hub_core.specs.Taking.{IsServed}
 use Rattle.hub_core.proofs.Servings.{acted-measured}
 use Rattle.bc_top.specs.Built.{IsTiming, IsReadTiming, IsUntimed, IsBuilt}
+use Rattle.bc_top.specs.Going.{AreUnmeasured}
 use Rattle.bc_top.specs.Loop.{IsDueAt, ports_after}
 use Rattle.bc_top.proofs.AtPorts.{port-due}
 use Rattle.bc_top.proofs.Building.{all-get}
@@ -87,11 +88,6 @@ port-untimed s h input built is =
     (λ r there. happening-untimed s.options p r.tick r.what (all-get P (records_of s p) h.taken r all there)) (λ tick timer. tt) is
 
 -- ---- ports that gave no measure
-
--- the last entry of none of the ports gave a measure
-abbrev pub AreUnmeasured : List HubPort → Type 0
-AreUnmeasured [] = Unit {0}
-AreUnmeasured (h ∷ hs) = (h.measured ≡ None) × AreUnmeasured hs
 
 -- a port that gave none gives none
 abbrev Stays : (HubPort → HubPort) → Type 0

@@ -7,6 +7,8 @@ pub mod Cursor
 pub mod Loop
 pub mod Built
 pub mod Replaying
+pub mod Sooner
+pub mod Going
 pub mod Call
 pub mod Causes
 pub mod Complete

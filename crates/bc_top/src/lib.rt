@@ -5,6 +5,7 @@ pub mod cursor;
 pub mod due;
 pub mod laws;
 mod built;
+mod next;
 mod outcome;
 mod read;
 mod replay;

@@ -1,10 +1,16 @@
-ghost use Rattle.std.specs.Prelude.{IfOk, IfErr};
+ghost use Rattle.std.specs.Prelude.{◌≡◌, ℕ, ◌+◌, ◌-◌, ◌<◌, ◌≤◌, [], length, IfOk, IfErr, OnOk};
 ghost use Rattle.bc_history.specs.ScenarioRules.{IsScenario};
 ghost use Rattle.bc_history.specs.World.{IsWorld};
 ghost use Rattle.bc_top.specs.Built.{IsBuilt};
+ghost use Rattle.bc_top.specs.Cursor.{AreCursors};
+ghost use Rattle.bc_top.specs.Going.{IsDueFirst, IsFirst, IsGoing, IsUnderWay, HasServed};
 ghost use Rattle.bc_top.specs.Replaying.{IsReplayError};
 
-use bc_history::{Run, Scenario};
+use crate::cursor::next_of;
+use crate::next::{next_due, next_input};
+use bc_history::{Input, Run, Scenario};
+use hub_core::{Hub, HubError};
+use ptp_base::NoMemory;
 use std::alloc::Global;
 
 /// Why a scenario was not replayed.
@@ -16,12 +22,95 @@ pub enum ReplayError {
     Events,
 }
 
-/// The run of a scenario that is built.
-pub fn replay(_alloc: Global, _s: &Scenario) -> Result<Run, ReplayError>
-    requires built { IsBuilt _s.now }
-    requires kept { IsScenario _s.now }
-    ensures run { IfOk result (λ run. IsWorld _s.now run) }
-    ensures error { IfErr result (IsReplayError _s.now) }
+impl From<NoMemory> for ReplayError {
+    ghost use Rattle.std.specs.Prelude.{◌≡◌};
+    ghost use Rattle.bc_top.specs.declared.replay.ReplayError.TheVariants.{NoMemory as Lacks};
+
+    ghost from_gives = { λ _ e. e ≡ Lacks };
+
+    fn from(_e: NoMemory) -> ReplayError {
+        ReplayError::NoMemory
+    }
+}
+
+impl From<HubError> for ReplayError {
+    ghost use Rattle.std.specs.Prelude.{◌≡◌};
+    ghost use Rattle.bc_top.specs.Replaying.{by_hub};
+
+    ghost from_gives = { λ h e. e ≡ by_hub h };
+
+    fn from(error: HubError) -> ReplayError {
+        match error {
+            HubError::NoMemory => ReplayError::NoMemory,
+            HubError::Events => ReplayError::Events,
+        }
+    }
+}
+
+/// The cursors of a run that begins: each at its port's first record.
+fn first_cursors(alloc: Global, s: &Scenario) -> Result<Vec<usize>, NoMemory>
+    requires few { length s.now.ports ≤ 32 }
+    ensures count { IfOk result (λ cursors. length cursors.items ≡ length s.now.ports) }
+    ensures next { IfOk result (λ cursors. AreCursors s.now [] cursors.items) }
 {
-    Err(ReplayError::NoMemory)
+    let mut cursors = Vec::new(alloc);
+    for i in 0..s.ports.len() {
+        cursors.push(next_of(s.records.items(), 0, i as u16 + 1))?;
+    }
+    Ok(cursors)
+}
+
+/// The hub takes an input that is due first.
+fn serve(hub: &mut Hub, input: Input) -> Result<(), ReplayError>
+    requires built { IsBuilt hub.old.scenario }
+    requires under_way { IsUnderWay hub.old.scenario hub.old }
+    requires first { IsFirst hub.old.scenario hub.old input }
+    ensures served { OnOk result (HasServed hub.old.scenario hub.old hub.new input) }
+    ensures few { OnOk result (length hub.old.entries < 131071) }
+    ensures error { IfErr result (IsReplayError hub.old.scenario) }
+{
+    if let Err(error) = hub.event(input) {
+        return Err(ReplayError::from(error));
+    }
+    Ok(())
+}
+
+/// One turn: the port of index `k`, which is due first, takes its next input. Its cursor goes on
+/// where that is a record.
+fn take_turn(
+    alloc: Global,
+    s: &Scenario,
+    hub: &mut Hub,
+    cursors: &mut Vec<usize>,
+    k: usize,
+) -> Result<(), ReplayError>
+    requires built { IsBuilt s.now }
+    requires few { length s.now.ports ≤ 32 }
+    requires going { IsGoing s.now hub.old cursors.old.items }
+    requires due { IsDueFirst s.now hub.old k }
+    ensures going { OnOk result (IsGoing s.now hub.new cursors.new.items) }
+    ensures more { OnOk result (131071 - length hub.new.entries < 131071 - length hub.old.entries) }
+    ensures error { IfErr result (IsReplayError s.now) }
+{
+    let (input, cursor) = next_input(alloc, s, hub, cursors.as_slice(), k)?;
+    serve(hub, input)?;
+    cursors[k] = cursor;
+    Ok(())
+}
+
+/// The run of a scenario that is built. At each turn it looks once at each port, and copies nothing
+/// of the history.
+pub fn replay(alloc: Global, s: &Scenario) -> Result<Run, ReplayError>
+    requires built { IsBuilt s.now }
+    requires kept { IsScenario s.now }
+    ensures run { IfOk result (λ run. IsWorld s.now run) }
+    ensures error { IfErr result (IsReplayError s.now) }
+{
+    let mut hub = Hub::new(alloc, s)?;
+    let mut cursors = first_cursors(alloc, s)?;
+    'turns: while let Some(k) = next_due(alloc, s, &hub, &cursors)? {
+        take_turn(alloc, s, &mut hub, &mut cursors, k)?;
+    }
+    let (entries, logs) = hub.part();
+    Ok(Run { entries, logs })
 }
