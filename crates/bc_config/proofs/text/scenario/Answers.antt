@@ -31,4 +31,3 @@ returns-in-Err-clause-refused c =
 pub returns-in-Ok-clause-stands : goal.returns-in-Ok-clause-stands
 returns-in-Ok-clause-stands c =
     stands c.args.text.now c.loop-line.lines c.loop-line.number c.loop-line.draft c.in-Ok.scenario c.loop-line.invariant c.in_default.ensures.steps.0 (sym c.in_default-end_fault.ensures) c.in-Ok.ensures
-
