@@ -119,3 +119,9 @@ otherwise_unbuilt s b built none = elim (built_or_not s) [
   | inl is ↦ absurd (let both : true ≡ false = sym (built is) ∙ none in cc)
   | inr is ↦ is
 ]
+
+-- a scenario that is built has no frame of timing, as the code lends its parts
+pub untimed_in : (s : Scenario) (o : Options) (records : List Record) → o ≡ s.options → records ≡ s.records → IsBuilt s → All (λ (r : Record). IsUntimed o r.what) records
+untimed_in s o records options_are records_are built =
+    subst (λ (x : Options). All (λ (r : Record). IsUntimed x r.what) records) (sym options_are)
+    (subst (λ (rs : List Record). All (λ (r : Record). IsUntimed s.options r.what) rs) (sym records_are) built.untimed)

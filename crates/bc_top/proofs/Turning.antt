@@ -101,11 +101,17 @@ ticks-all s hub cursors n ticks going all is =
     let few : length (ports_after s hub.entries) ≤ n = omega (arith, ports-length s hub.entries, going.count) in
     is ∙ ap (λ (hs : List HubPort). ticks_of s hs) (take_all n (ports_after s hub.entries) few)
 
--- the first of the ticks is of the port that is due first
-pub due-from_ticks : (s : Scenario) (hub : HubState) (ticks : List (Option ℕ)) (due : Option ℕ) → ticks ≡ ticks_of s (ports_after s hub.entries) → MatchOption due (IsNoneTick ticks s.options.duration) (IsFirstTick ticks s.options.duration)
+due-by_ticks : (s : Scenario) (hub : HubState) (ticks : List (Option ℕ)) (due : Option ℕ) → ticks ≡ ticks_of s (ports_after s hub.entries) → MatchOption due (IsNoneTick ticks s.options.duration) (IsFirstTick ticks s.options.duration)
     → MatchOption due (IsNoneDue s (ports_after s hub.entries)) (IsDueFirst s hub)
-due-from_ticks s hub ticks None is none = NoneDue-from_ticks s (ports_after s hub.entries) ticks is none
-due-from_ticks s hub ticks (Some k) is first = FirstDue-from_ticks s (ports_after s hub.entries) ticks k is first
+due-by_ticks s hub ticks None is none = NoneDue-from_ticks s (ports_after s hub.entries) ticks is none
+due-by_ticks s hub ticks (Some k) is first = FirstDue-from_ticks s (ports_after s hub.entries) ticks k is first
+
+-- the first of the ticks is of the port that is due first
+pub due-from_ticks : (s : Scenario) (hub : HubState) (ticks lent : List (Option ℕ)) (duration : ℕ) (due : Option ℕ) → ticks ≡ ticks_of s (ports_after s hub.entries) → lent ≡ ticks → duration ≡ s.options.duration
+    → MatchOption due (IsNoneTick lent duration) (IsFirstTick lent duration) → MatchOption due (IsNoneDue s (ports_after s hub.entries)) (IsDueFirst s hub)
+due-from_ticks s hub ticks lent duration due is same end first =
+    due-by_ticks s hub ticks due is
+    (subst (λ (n : ℕ). MatchOption due (IsNoneTick ticks n) (IsFirstTick ticks n)) end (subst (λ (ts : List (Option ℕ)). MatchOption due (IsNoneTick ts duration) (IsFirstTick ts duration)) same first))
 
 -- a port that the hub tells of is there
 pub within_ports : (s : Scenario) (hub : HubState) (cursors : List ℕ) (i : ℕ) → IsGoing s hub cursors → i < length cursors → i + 1 ≤ length hub.scenario.ports

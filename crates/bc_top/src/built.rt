@@ -3,6 +3,7 @@ ghost use Rattle.bc_history.specs.Own.{read_frame};
 ghost use Rattle.bc_top.specs.Loop.{IsQuiet};
 ghost use Rattle.bc_top.specs.Built.{IsTiming, IsTimed, IsUntimed, IsBuilt, IsUnbuilt};
 
+use crate::parts::{options_of, records_of};
 use bc_history::{Happening, Options, Record, Scenario};
 use ptp_profile::Body;
 use ptp_wire::decode;
@@ -69,5 +70,5 @@ pub fn is_built(s: &Scenario) -> bool
     ensures built { result ≡ true → IsBuilt s.now }
     ensures unbuilt { result ≡ false → IsUnbuilt s.now }
 {
-    is_quiet(s) && are_untimed(&s.options, s.records.items())
+    is_quiet(s) && are_untimed(options_of(s), records_of(s))
 }

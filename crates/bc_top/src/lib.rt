@@ -7,6 +7,7 @@ pub mod laws;
 mod built;
 mod next;
 mod outcome;
+mod parts;
 mod read;
 mod replay;
 mod top;

@@ -8,6 +8,7 @@ ghost use Rattle.bc_top.specs.Sooner.{sooner_timer};
 
 use crate::cursor::next_of;
 use crate::due::first_due;
+use crate::parts::{duration_of, records_of};
 use bc_history::{Happening, Input, Record, Scenario};
 use hub_core::Hub;
 use ptp_base::NoMemory;
@@ -55,10 +56,11 @@ fn next_ticks(
     requires going { IsGoing s.now hub.now cursors.now }
     ensures { IfOk result (λ ticks. ticks.items ≡ ticks_of s.now (ports_after s.now hub.now.entries)) }
 {
+    let records = records_of(s);
     let mut ticks = Vec::new(alloc);
     for (i, cursor) in cursors.iter().enumerate() {
         let timer = hub.due(i as u16 + 1);
-        ticks.push(next_tick(s.records.items(), *cursor, timer))?;
+        ticks.push(next_tick(records, *cursor, timer))?;
     }
     Ok(ticks)
 }
@@ -75,7 +77,7 @@ pub fn next_due(
     ensures { IfOk result (λ due. MatchOption due (IsNoneDue s.now (ports_after s.now hub.now.entries)) (IsDueFirst s.now hub.now)) }
 {
     let ticks = next_ticks(alloc, s, hub, cursors)?;
-    Ok(first_due(&ticks, s.options.duration))
+    Ok(first_due(&ticks, duration_of(s)))
 }
 
 /// What a record brings to a port. The octets of a frame are copied.
@@ -108,7 +110,7 @@ pub fn next_input(
     ensures first { IfOk result (λ next. IsFirst s.now hub.now next.0) }
     ensures passed { IfOk result (λ next. IsPassed s.now hub.now cursors.now k next.0 next.1) }
 {
-    let records = s.records.items();
+    let records = records_of(s);
     let port = k as u16 + 1;
     let cursor = cursors[k];
     let timer = hub.due(port);

@@ -1,5 +1,4 @@
 ghost use Rattle.std.specs.Prelude.{◌≡◌, ℕ, ◌+◌, ◌-◌, ◌<◌, ◌≤◌, [], length, IfOk, IfErr, OnOk};
-ghost use Rattle.bc_history.specs.ScenarioRules.{IsScenario};
 ghost use Rattle.bc_history.specs.World.{IsWorld};
 ghost use Rattle.bc_top.specs.Built.{IsBuilt};
 ghost use Rattle.bc_top.specs.Cursor.{AreCursors};
@@ -8,6 +7,7 @@ ghost use Rattle.bc_top.specs.Replaying.{IsReplayError};
 
 use crate::cursor::next_of;
 use crate::next::{next_due, next_input};
+use crate::parts::{port_count, records_of};
 use bc_history::{Input, Run, Scenario};
 use hub_core::{Hub, HubError};
 use ptp_base::NoMemory;
@@ -53,9 +53,10 @@ fn first_cursors(alloc: Global, s: &Scenario) -> Result<Vec<usize>, NoMemory>
     ensures count { IfOk result (λ cursors. length cursors.items ≡ length s.now.ports) }
     ensures next { IfOk result (λ cursors. AreCursors s.now [] cursors.items) }
 {
+    let records = records_of(s);
     let mut cursors = Vec::new(alloc);
-    for i in 0..s.ports.len() {
-        cursors.push(next_of(s.records.items(), 0, i as u16 + 1))?;
+    for i in 0..port_count(s) {
+        cursors.push(next_of(records, 0, i as u16 + 1))?;
     }
     Ok(cursors)
 }
@@ -102,10 +103,10 @@ fn take_turn(
 /// of the history.
 pub fn replay(alloc: Global, s: &Scenario) -> Result<Run, ReplayError>
     requires built { IsBuilt s.now }
-    requires kept { IsScenario s.now }
     ensures run { IfOk result (λ run. IsWorld s.now run) }
     ensures error { IfErr result (IsReplayError s.now) }
 {
+    s.rules();
     let mut hub = Hub::new(alloc, s)?;
     let mut cursors = first_cursors(alloc, s)?;
     'turns: while let Some(k) = next_due(alloc, s, &hub, &cursors)? {

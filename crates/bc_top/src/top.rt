@@ -1,6 +1,5 @@
 ghost use Rattle.std.specs.Prelude.{◌≡◌, ℕ, ◌≤◌, ◌++◌, List, length, map, IfOk, IfErr, string_bytes};
 ghost use Rattle.bc_history.specs.ScenarioText.{Stands};
-ghost use Rattle.bc_history.specs.ScenarioRules.{IsScenario};
 ghost use Rattle.bc_top.specs.Built.{IsBuilt};
 ghost use Rattle.bc_top.specs.Reading.{most_octets};
 ghost use Rattle.bc_top.specs.Call.{Call, IsTranscriptOf, IsWithout};
@@ -24,7 +23,6 @@ use text_io::{Reason, Sink, Source};
 fn built_scenario(alloc: Global, text: &[u8]) -> Result<Scenario, NoTranscript>
     requires short { length text.now ≤ most_octets }
     ensures stands { IfOk result (λ s. Stands text.now s) }
-    ensures kept { IfOk result IsScenario }
     ensures built { IfOk result IsBuilt }
     ensures without { IfErr result (IsWithout text.now) }
 {

@@ -12,7 +12,7 @@ loop-i-preserved c =
     let lt : c.loop-i.i < length c.args.cursors.now = omega arith in
     ticks-more c.args.s.now c.args.hub.now c.args.cursors.now c.loop-i.i _ c.due-timer.result c.next_tick.result c.loop-i.ticks.items c.push.new.self.items c.requires.going
     (slice_get-get_or c.args.cursors.now c.loop-i.i 0 lt) c.due-timer.ensures
-    (λ p. c.next_tick.ensures p ∙ ap (λ (rs : List Record). option_map tick_of (record_or_timer p (slice_get rs (get_or c.args.cursors.now c.loop-i.i 0)) c.due-timer.result)) c.items.ensures) c.loop-i.invariant c.in_ok-push.ensures.items
+    (λ p. c.next_tick.ensures p ∙ ap (λ (rs : List Record). option_map tick_of (record_or_timer p (slice_get rs (get_or c.args.cursors.now c.loop-i.i 0)) c.due-timer.result)) c.records_of-records.ensures) c.loop-i.invariant c.in_ok-push.ensures.items
 
 pub returns : goal.returns
 returns c = ticks-all c.args.s.now c.args.hub.now c.args.cursors.now c.loop-i.i c.loop-i.ticks.items c.requires.going (omega arith) c.loop-i.invariant

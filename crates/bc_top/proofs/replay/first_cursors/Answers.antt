@@ -9,5 +9,5 @@ returns-clause-next c = Cursors-opening c.args.s.now c.loop-i.cursors.items c.lo
 pub loop-i-preserved : goal.loop-i-preserved
 loop-i-preserved c = record {
   count = search rules;
-  next = cursors-more c.args.s.now c.items.result.now c.loop-i.cursors.items c.push.new.self.items c.loop-i.i c.next_of.result c.items.ensures c.loop-i.invariant.count c.loop-i.invariant.next c.next_of.ensures c.in_ok-push.ensures.items;
+  next = cursors-more c.args.s.now c.records_of-records.result.now c.loop-i.cursors.items c.push.new.self.items c.loop-i.i c.next_of.result c.records_of-records.ensures c.loop-i.invariant.count c.loop-i.invariant.next c.next_of.ensures c.in_ok-push.ensures.items;
 }
