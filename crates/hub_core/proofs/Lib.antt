@@ -9,3 +9,7 @@ pub mod Decisions
 pub mod Servings
 pub mod Dues
 pub mod Timed
+pub mod Copying
+pub mod Beginning
+pub mod Machines
+pub mod Entries
