@@ -9,3 +9,6 @@ pub mod Decisions
 pub mod Servings
 pub mod Dues
 pub mod Timed
+pub mod Giving
+pub mod Advancing
+pub mod Holding

@@ -3,3 +3,5 @@ pub mod Taking
 pub mod Owning
 pub mod Deciding
 pub mod Serving
+pub mod Rolling
+pub mod Holding

@@ -11,12 +11,17 @@ mod intake;
 mod moves;
 mod now;
 mod port;
+mod roles;
 mod scratch;
 mod serving;
 mod taking;
 
 pub use now::Now;
 pub use port::PortNow;
+pub use roles::Roles;
 pub use scratch::{Scratch, Stages};
 pub use serving::Made;
 pub use taking::Taken;
+
+#[cfg(test)]
+mod roles_tests;

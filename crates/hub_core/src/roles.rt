@@ -1,0 +1,158 @@
+ghost use Rattle.std.specs.Prelude.{◌≡◌, ◌+◌, ◌-◌, ◌*◌, ◌<◌, ◌≤◌, ◌++◌, All, [], ◌∷◌, fold, length, IfOk, OnOk, OnErr};
+ghost use Rattle.model_clock.specs.Clock.{IsClock};
+ghost use Rattle.ptp_profile.specs.Roles.{AtMostOneFollows};
+ghost use Rattle.discipline_seat.specs.Seats.{logs_from, reading_of};
+ghost use Rattle.bc_history.specs.Generations.{states_of, clocks_of};
+ghost use Rattle.bc_history.specs.State.{Core, Roles as HistoryRoles};
+ghost use Rattle.bc_history.specs.World.{with_order};
+ghost use Rattle.hub_core.specs.Rolling.{no_roles, AreRolesOf, HaveAdvanced, IsSameTable};
+ghost use Rattle.hub_core.specs.Holding.{with_given, AreAllowed, IsAllowed};
+
+use discipline_seat::{Logs, PlainSeats, Reading};
+use model_clock::ClockState;
+use ptp_base::{Items, NoMemory, PortId, PortState, Room};
+use role_gen::{Edge, Generations, RoleOrder, edges, orders};
+use std::alloc::Global;
+use std::marker::Model;
+
+/// What drives each clock of a run, and the clocks' logs: the edges with their generation, and the
+/// seats.
+#[derive(Drop)]
+pub struct Roles {
+    generations: Generations,
+    seats: PlainSeats,
+    // A place for each clock.
+    next: Vec<Option<Edge>>,
+    // Two places for each clock.
+    drafts: Vec<RoleOrder>,
+}
+
+impl Model for Roles {
+    ghost use Rattle.hub_core.specs.Rolling.{Rolling};
+    ghost use Rattle.hub_core.specs.Holding.{IsRoles};
+
+    ghost Value = { Rolling };
+
+    ghost view = { λ r. record { generation = r.generations; seats = r.seats } };
+
+    ghost invariant = { λ r. IsRoles (record { generation = r.generations; seats = r.seats }) r.next.items r.drafts.items };
+}
+
+/// Gives a clock to whom the order names, and tells the order.
+fn give(seats: &mut PlainSeats, order: &RoleOrder, out: &mut Room<RoleOrder>)
+    requires allowed { IsAllowed seats.old order.now }
+    requires room { 0 < out.old.spare }
+    ensures seats { seats.new ≡ with_given seats.old order.now }
+    ensures told { out.new ≡ record { items = out.old.items ++ order.now ∷ []; spare = out.old.spare - 1 } }
+{
+    seats.order(order.clock, order.gener, order.ctrl);
+    out.push(*order);
+}
+
+/// Gives the clocks to whom the orders name, one order after another, and tells the orders.
+fn give_all(seats: &mut PlainSeats, drafts: &[RoleOrder], out: &mut Room<RoleOrder>)
+    requires allowed { AreAllowed seats.old drafts.now }
+    requires room { length drafts.now ≤ out.old.spare }
+    ensures seats { seats.new ≡ fold with_given seats.old drafts.now }
+    ensures told { out.new.items ≡ out.old.items ++ drafts.now }
+{
+    'given: for order in drafts {
+        give(seats, order, out);
+    }
+}
+
+impl Roles {
+    /// Before the first generation: nothing drives any of 1 to 16 clocks in these states, and their
+    /// logs are empty. No change makes a log longer than `rows`, which is from 1 to 262,143.
+    pub fn new(alloc: Global, clocks: &[ClockState], rows: u32) -> Result<Roles, NoMemory>
+        requires some { 1 ≤ length clocks.now }
+        requires few { length clocks.now ≤ 16 }
+        requires clocks { All IsClock clocks.now }
+        requires row { 1 ≤ rows }
+        requires rows { rows ≤ 262143 }
+        ensures { IfOk result (λ roles. roles ≡ no_roles rows clocks.now) }
+    {
+        let count = clocks.len();
+        let nobody = RoleOrder {
+            clock: 0,
+            gener: 0,
+            ctrl: 0,
+        };
+        Ok(Roles {
+            generations: Generations::new(alloc, count as u8)?,
+            seats: PlainSeats::new(alloc, clocks, rows)?,
+            next: vec![in alloc; None; count]?,
+            drafts: vec![in alloc; nobody; 2 * count]?,
+        })
+    }
+
+    /// Makes room for the orders of one generation, or leaves all as before.
+    pub fn reserve(&mut self) -> Result<(), NoMemory>
+        ensures ok { OnOk result (2 * length self.new.seats.logs ≤ self.new.seats.spare) }
+        ensures same { self.new ≡ record self.old { seats = record self.old.seats { spare = self.new.seats.spare } } }
+        ensures err { OnErr result (self.new ≡ self.old) }
+    {
+        let orders = 2 * self.next.len() as u32;
+        self.seats.reserve(orders)
+    }
+
+    /// The state of a clock after its whole log, with the stamp in force. The clock is there. Takes
+    /// no memory.
+    pub fn read(&self, clock: u8) -> Reading
+        requires there { clock < length self.now.seats.logs }
+        ensures reading { result ≡ reading_of self.now.seats clock }
+        ensures state { IsClock result.state }
+    {
+        self.seats.read(clock)
+    }
+
+    /// Begins the next generation where the edges that the ports' states give differ, the parent
+    /// included, gives its orders to the seats and tells them: revokes, then grants, each by rising
+    /// clocks. `map` has the clock of each port. Takes no memory.
+    pub fn advance(
+        &mut self,
+        states: &[PortState],
+        map: &[u8],
+        parent: PortId,
+        out: Room<RoleOrder>,
+    ) -> Items<RoleOrder>
+        requires same { length states.now ≡ length map.now }
+        requires few { length states.now ≤ 32 }
+        requires placed { All (λ clock. clock < length self.old.seats.logs) map.now }
+        requires one { AtMostOneFollows states.now }
+        requires below { self.old.generation.gener < 131071 }
+        requires empty { out.items ≡ [] }
+        requires room { 2 * length self.old.seats.logs ≤ out.spare }
+        requires spare { 2 * length self.old.seats.logs ≤ self.old.seats.spare }
+        ensures advanced { (c : Core) (r : HistoryRoles) → parent ≡ c.master.parent → states.now ≡ states_of c.ports → map.now ≡ clocks_of c.ports
+            → AreRolesOf self.old r → HaveAdvanced c r self.new result }
+        ensures logs { self.new.seats.logs ≡ fold with_order self.old.seats.logs result }
+        ensures same { IsSameTable self.old self.new }
+        ensures gener { self.new.generation.gener ≤ self.old.generation.gener + 1 }
+    {
+        let mut told = out;
+        edges(states, map, parent, self.next.as_mut_slice());
+        let gener = self.generations.generation() + 1;
+        let count = orders(
+            gener,
+            self.generations.edges(),
+            self.next.as_slice(),
+            self.drafts.as_mut_slice(),
+        );
+        match self.generations.advance(self.next.as_slice()) {
+            None => told.done(),
+            Some(_) => {
+                give_all(&mut self.seats, &self.drafts.as_slice()[..count], &mut told);
+                told.done()
+            }
+        }
+    }
+
+    /// The logs, by rising clocks, the oldest entry first. Takes no memory.
+    pub fn part(self) -> Logs
+        ensures { result ≡ logs_from 0 self.seats.openings self.seats.logs }
+    {
+        let Roles { seats, .. } = self;
+        seats.part()
+    }
+}
