@@ -109,7 +109,7 @@ orders_if : (b : Bool) (c : Core) (r : Roles) → are_same_edges r.edges (edges_
     → orders_now c r ≡ cond (not b) (orders_of (r.gener + 1) r.edges (edges_now c r)) []
 orders_if b c r is = ap (λ (b : Bool). cond (not b) (orders_of (r.gener + 1) r.edges (edges_now c r)) []) is
 
-edges-same : (c : Core) (r : Roles) (n : ℕ) (old : List (Option Edge)) (parent : PortId) (states : List PortState) (clocks : List ℕ) → length old ≡ n
+pub edges-same : (c : Core) (r : Roles) (n : ℕ) (old : List (Option Edge)) (parent : PortId) (states : List PortState) (clocks : List ℕ) → length old ≡ n
     → old ≡ r.edges → parent ≡ c.master.parent → states ≡ states_of c.ports → clocks ≡ clocks_of c.ports → edges_of n parent states clocks ≡ edges_now c r
 edges-same c r n old parent states clocks long edges parents state clock =
     ap (λ (k : ℕ). edges_of k parent states clocks) (sym long ∙ ap length edges)

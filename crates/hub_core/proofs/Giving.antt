@@ -13,7 +13,7 @@ use Rattle.ptp_profile.specs.Logs.{stamp_after}
 use Rattle.ptp_profile.specs.Roles.{ctrl_by, edge_at, grant, grants_from, is_same_edge, orders_of, revoke, revokes_from}
 use Rattle.ptp_profile.proofs.GenerationLemmas.{filter-orders}
 use Rattle.discipline_seat.specs.Seats.{log_of, order_count, Follows, IsCtrl, Seats}
-use Rattle.hub_core.specs.Holding.{ctrls_in, with_given, AreAllowed, IsAllowed, KeepsUp}
+use Rattle.hub_core.specs.Holding.{ctrls_in, with_given, AreAllowed, HasHolder, IsAllowed, KeepsUp}
 
 -- ---- single orders
 -- an order to a clock that is there, for nobody or a controller that may hold it
@@ -21,10 +21,6 @@ pub record IsOrder (clocks : ℕ) (order : RoleOrder) : Type 0 where
   pub there : order.clock < clocks
   pub ctrl : IsCtrl clocks order.ctrl
   pub gener : order.gener ≤ 262143
-
--- the controller of an edge may hold a clock
-abbrev pub HasHolder : ℕ → Option Edge → Type 0
-HasHolder clocks edge = IsCtrl clocks (ctrl_by edge)
 
 revoke_step : (b : Bool) (clocks gener n : ℕ) (edge : Option Edge) (orders : List RoleOrder) → n < clocks → gener ≤ 262143 → All (IsOrder clocks) orders
     → All (IsOrder clocks) (cond b [] (revoke gener n edge) ++ orders)

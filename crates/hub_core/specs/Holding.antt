@@ -4,7 +4,7 @@ use Rattle.ptp_profile.specs.declared.roles.Edge.{Edge}
 use Rattle.ptp_profile.specs.declared.roles.RoleOrder.{RoleOrder}
 use Rattle.ptp_profile.specs.declared.seats.LogEntry.{LogEntry}
 use Rattle.ptp_profile.specs.declared.seats.LogEntry.TheVariants.{Order}
-use Rattle.ptp_profile.specs.Roles.{ctrls_of}
+use Rattle.ptp_profile.specs.Roles.{ctrl_by, ctrls_of}
 use Rattle.ptp_profile.specs.Forest.{IsForest}
 use Rattle.ptp_profile.specs.Logs.{stamp_after}
 use Rattle.discipline_seat.specs.Seats.{ctrls_with, log_of, order_count, stamp_in, with_entry, Follows, IsCtrl, Seats}
@@ -49,3 +49,13 @@ pub record IsAllowed (seats : Seats) (order : RoleOrder) : Type 0 where
 abbrev pub AreAllowed : Seats → List RoleOrder → Type 0
 AreAllowed seats [] = Unit {0}
 AreAllowed seats (order ∷ orders) = IsAllowed seats order × AreAllowed (with_given seats order) orders
+
+-- the controller of an edge may hold a clock
+abbrev pub HasHolder : ℕ → Option Edge → Type 0
+HasHolder clocks edge = IsCtrl clocks (ctrl_by edge)
+
+-- the new edges, one for each clock, make a forest of controllers that may hold a clock
+pub record AreEdges (clocks : ℕ) (news : List (Option Edge)) : Type 0 where
+  pub long : length news ≡ clocks
+  pub forest : IsForest (ctrls_of news)
+  pub holders : All (HasHolder clocks) news

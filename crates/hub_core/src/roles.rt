@@ -1,6 +1,7 @@
-ghost use Rattle.std.specs.Prelude.{◌≡◌, ◌+◌, ◌-◌, ◌*◌, ◌<◌, ◌≤◌, ◌++◌, All, [], ◌∷◌, fold, length, IfOk, OnOk, OnErr};
+ghost use Rattle.std.specs.Prelude.{◌≡◌, ◌+◌, ◌-◌, ◌*◌, ◌<◌, ◌≤◌, ◌++◌, All, [], ◌∷◌, fold, length, take, IfOk, OnOk, OnErr};
 ghost use Rattle.model_clock.specs.Clock.{IsClock};
-ghost use Rattle.ptp_profile.specs.Roles.{AtMostOneFollows};
+ghost use Rattle.ptp_profile.specs.Roles.{edges_of, orders_of, AtMostOneFollows};
+ghost use Rattle.role_gen.specs.Generations.{HaveCtrls};
 ghost use Rattle.discipline_seat.specs.Seats.{logs_from, reading_of};
 ghost use Rattle.bc_history.specs.Generations.{states_of, clocks_of};
 ghost use Rattle.bc_history.specs.State.{Core, Roles as HistoryRoles};
@@ -36,6 +37,35 @@ impl Model for Roles {
     ghost view = { λ r. record { generation = r.generations; seats = r.seats } };
 
     ghost invariant = { λ r. IsRoles (record { generation = r.generations; seats = r.seats }) r.next.items r.drafts.items };
+}
+
+/// Writes the edges that the ports' states give.
+fn place_edges(states: &[PortState], map: &[u8], parent: PortId, next: &mut Vec<Option<Edge>>)
+    requires same { length states.now ≡ length map.now }
+    requires few { length states.now ≤ 32 }
+    requires clocks { length next.old.items ≤ 16 }
+    requires placed { All (λ clock. clock < length next.old.items) map.now }
+    ensures edges { next.new.items ≡ edges_of (length next.old.items) parent states.now map.now }
+    ensures long { length next.new.items ≡ length next.old.items }
+    ensures ctrls { HaveCtrls next.new.items }
+{
+    edges(states, map, parent, next.as_mut_slice());
+}
+
+/// Writes the orders of the next generation, in which the edges become `next`, and answers how many
+/// they are.
+fn draft(generations: &Generations, next: &[Option<Edge>], drafts: &mut Vec<RoleOrder>) -> usize
+    requires same { length generations.now.edges ≡ length next.now }
+    requires few { length next.now ≤ 16 }
+    requires ctrls { HaveCtrls next.now }
+    requires below { generations.now.gener < 131071 }
+    requires pairs { length drafts.old.items ≡ 2 * length next.now }
+    ensures orders { take result drafts.new.items ≡ orders_of (generations.now.gener + 1) generations.now.edges next.now }
+    ensures within { result ≤ length drafts.new.items }
+    ensures pairs { length drafts.new.items ≡ length drafts.old.items }
+{
+    let gener = generations.generation() + 1;
+    orders(gener, generations.edges(), next, drafts.as_mut_slice())
 }
 
 /// Gives a clock to whom the order names, and tells the order.
@@ -131,18 +161,12 @@ impl Roles {
         ensures gener { self.new.generation.gener ≤ self.old.generation.gener + 1 }
     {
         let mut told = out;
-        edges(states, map, parent, self.next.as_mut_slice());
-        let gener = self.generations.generation() + 1;
-        let count = orders(
-            gener,
-            self.generations.edges(),
-            self.next.as_slice(),
-            self.drafts.as_mut_slice(),
-        );
-        match self.generations.advance(self.next.as_slice()) {
+        place_edges(states, map, parent, &mut self.next);
+        let count = draft(&self.generations, &self.next, &mut self.drafts);
+        match self.generations.advance(&self.next) {
             None => told.done(),
             Some(_) => {
-                give_all(&mut self.seats, &self.drafts.as_slice()[..count], &mut told);
+                give_all(&mut self.seats, &self.drafts[..count], &mut told);
                 told.done()
             }
         }
