@@ -13,3 +13,6 @@ pub mod Copying
 pub mod Beginning
 pub mod Machines
 pub mod Entries
+pub mod Giving
+pub mod Advancing
+pub mod Holding

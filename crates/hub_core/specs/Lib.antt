@@ -10,3 +10,4 @@ pub mod Telling
 pub mod Machine
 pub mod Opened
 pub mod Hubs
+pub mod Holding

@@ -31,3 +31,6 @@ pub use rooms::{Copies, Rooms};
 pub use scratch::{Scratch, Stages};
 pub use serving::Made;
 pub use taking::Taken;
+
+#[cfg(test)]
+mod roles_tests;

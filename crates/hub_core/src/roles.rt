@@ -1,18 +1,18 @@
-ghost use Rattle.std.specs.Prelude.{◌≡◌, ℕ, ◌+◌, ◌*◌, ◌<◌, ◌≤◌, List, [], length, map, fold, All, IfOk, OnOk, OnErr};
+ghost use Rattle.std.specs.Prelude.{◌≡◌, ◌+◌, ◌-◌, ◌*◌, ◌<◌, ◌≤◌, ◌++◌, All, [], ◌∷◌, fold, length, take, IfOk, OnOk, OnErr};
 ghost use Rattle.model_clock.specs.Clock.{IsClock};
-ghost use Rattle.ptp_profile.specs.Roles.{AtMostOneFollows};
+ghost use Rattle.ptp_profile.specs.Roles.{edges_of, orders_of, AtMostOneFollows};
+ghost use Rattle.role_gen.specs.Generations.{HaveCtrls};
 ghost use Rattle.discipline_seat.specs.Seats.{logs_from, reading_of};
-ghost use Rattle.bc_history.specs.State as model;
-ghost use Rattle.bc_history.specs.State.{Core};
-ghost use Rattle.bc_history.specs.Generations.{clocks_of, states_of};
+ghost use Rattle.bc_history.specs.Generations.{states_of, clocks_of};
+ghost use Rattle.bc_history.specs.State.{Core, Roles as HistoryRoles};
 ghost use Rattle.bc_history.specs.World.{with_order};
-ghost use Rattle.hub_core.specs.Rolling.{AreRolesOf, HaveAdvanced, IsSameTable, Rolling, no_roles};
+ghost use Rattle.hub_core.specs.Rolling.{no_roles, AreRolesOf, HaveAdvanced, IsSameTable};
+ghost use Rattle.hub_core.specs.Holding.{with_given, AreAllowed, IsAllowed};
 
-use discipline_seat::PlainSeats;
+use discipline_seat::{Logs, PlainSeats, Reading};
 use model_clock::ClockState;
 use ptp_base::{Items, NoMemory, PortId, PortState, Room};
-use ptp_profile::{Edge, Logs, Reading, RoleOrder};
-use role_gen::Generations;
+use role_gen::{Edge, Generations, RoleOrder, edges, orders};
 use std::alloc::Global;
 use std::marker::Model;
 
@@ -22,19 +22,78 @@ use std::marker::Model;
 pub struct Roles {
     generations: Generations,
     seats: PlainSeats,
+    // A place for each clock.
     next: Vec<Option<Edge>>,
+    // Two places for each clock.
     drafts: Vec<RoleOrder>,
 }
 
 impl Model for Roles {
     ghost use Rattle.hub_core.specs.Rolling.{Rolling};
+    ghost use Rattle.hub_core.specs.Holding.{IsRoles};
 
     ghost Value = { Rolling };
 
     ghost view = { λ r. record { generation = r.generations; seats = r.seats } };
+
+    ghost invariant = { λ r. IsRoles (record { generation = r.generations; seats = r.seats }) r.next.items r.drafts.items };
+}
+
+/// Writes the edges that the ports' states give.
+fn place_edges(states: &[PortState], map: &[u8], parent: PortId, next: &mut Vec<Option<Edge>>)
+    requires same { length states.now ≡ length map.now }
+    requires few { length states.now ≤ 32 }
+    requires clocks { length next.old.items ≤ 16 }
+    requires placed { All (λ clock. clock < length next.old.items) map.now }
+    ensures edges { next.new.items ≡ edges_of (length next.old.items) parent states.now map.now }
+    ensures long { length next.new.items ≡ length next.old.items }
+    ensures ctrls { HaveCtrls next.new.items }
+{
+    edges(states, map, parent, next.as_mut_slice());
+}
+
+/// Writes the orders of the next generation, in which the edges become `next`, and answers how many
+/// they are.
+fn draft(generations: &Generations, next: &[Option<Edge>], drafts: &mut Vec<RoleOrder>) -> usize
+    requires same { length generations.now.edges ≡ length next.now }
+    requires few { length next.now ≤ 16 }
+    requires ctrls { HaveCtrls next.now }
+    requires below { generations.now.gener < 131071 }
+    requires pairs { length drafts.old.items ≡ 2 * length next.now }
+    ensures orders { take result drafts.new.items ≡ orders_of (generations.now.gener + 1) generations.now.edges next.now }
+    ensures within { result ≤ length drafts.new.items }
+    ensures pairs { length drafts.new.items ≡ length drafts.old.items }
+{
+    let gener = generations.generation() + 1;
+    orders(gener, generations.edges(), next, drafts.as_mut_slice())
+}
+
+/// Gives a clock to whom the order names, and tells the order.
+fn give(seats: &mut PlainSeats, order: &RoleOrder, out: &mut Room<RoleOrder>)
+    requires allowed { IsAllowed seats.old order.now }
+    requires room { 0 < out.old.spare }
+    ensures seats { seats.new ≡ with_given seats.old order.now }
+    ensures told { out.new ≡ record { items = out.old.items ++ order.now ∷ []; spare = out.old.spare - 1 } }
+{
+    seats.order(order.clock, order.gener, order.ctrl);
+    out.push(*order);
+}
+
+/// Gives the clocks to whom the orders name, one order after another, and tells the orders.
+fn give_all(seats: &mut PlainSeats, drafts: &[RoleOrder], out: &mut Room<RoleOrder>)
+    requires allowed { AreAllowed seats.old drafts.now }
+    requires room { length drafts.now ≤ out.old.spare }
+    ensures seats { seats.new ≡ fold with_given seats.old drafts.now }
+    ensures told { out.new.items ≡ out.old.items ++ drafts.now }
+{
+    'given: for order in drafts {
+        give(seats, order, out);
+    }
 }
 
 impl Roles {
+    /// Before the first generation: nothing drives any of 1 to 16 clocks in these states, and their
+    /// logs are empty. No change makes a log longer than `rows`, which is from 1 to 262,143.
     pub fn new(alloc: Global, clocks: &[ClockState], rows: u32) -> Result<Roles, NoMemory>
         requires some { 1 ≤ length clocks.now }
         requires few { length clocks.now ≤ 16 }
@@ -43,24 +102,40 @@ impl Roles {
         requires rows { rows ≤ 262143 }
         ensures { IfOk result (λ roles. roles ≡ no_roles rows clocks.now) }
     {
-        Err(NoMemory)
+        let count = clocks.len();
+        let nobody = RoleOrder {
+            clock: 0,
+            gener: 0,
+            ctrl: 0,
+        };
+        Ok(Roles {
+            generations: Generations::new(alloc, count as u8)?,
+            seats: PlainSeats::new(alloc, clocks, rows)?,
+            next: vec![in alloc; None; count]?,
+            drafts: vec![in alloc; nobody; 2 * count]?,
+        })
     }
 
+    /// The number of the clocks, 1 to 16. Takes no memory.
+    pub fn clocks(&self) -> usize
+        ensures number { result ≡ length self.now.seats.logs }
+        ensures few { result ≤ 16 }
+    {
+        self.next.len()
+    }
+
+    /// Makes room for the orders of one generation, or leaves all as before.
     pub fn reserve(&mut self) -> Result<(), NoMemory>
         ensures ok { OnOk result (2 * length self.new.seats.logs ≤ self.new.seats.spare) }
         ensures same { self.new ≡ record self.old { seats = record self.old.seats { spare = self.new.seats.spare } } }
         ensures err { OnErr result (self.new ≡ self.old) }
     {
-        Err(NoMemory)
+        let orders = 2 * self.next.len() as u32;
+        self.seats.reserve(orders)
     }
 
-    /// The number of the clocks.
-    pub fn clocks(&self) -> usize
-        ensures { result ≡ length self.now.seats.logs }
-    {
-        self.drafts.len() / 2
-    }
-
+    /// The state of a clock after its whole log, with the stamp in force. The clock is there. Takes
+    /// no memory.
     pub fn read(&self, clock: u8) -> Reading
         requires there { clock < length self.now.seats.logs }
         ensures reading { result ≡ reading_of self.now.seats clock }
@@ -69,6 +144,9 @@ impl Roles {
         self.seats.read(clock)
     }
 
+    /// Begins the next generation where the edges that the ports' states give differ, the parent
+    /// included, gives its orders to the seats and tells them: revokes, then grants, each by rising
+    /// clocks. `map` has the clock of each port. Takes no memory.
     pub fn advance(
         &mut self,
         states: &[PortState],
@@ -84,15 +162,25 @@ impl Roles {
         requires empty { out.items ≡ [] }
         requires room { 2 * length self.old.seats.logs ≤ out.spare }
         requires spare { 2 * length self.old.seats.logs ≤ self.old.seats.spare }
-        ensures advanced { (c : Core) (r : model.Roles) → parent ≡ c.master.parent → states.now ≡ states_of c.ports → map.now ≡ clocks_of c.ports → AreRolesOf self.old r
-            → HaveAdvanced c r self.new result }
+        ensures advanced { (c : Core) (r : HistoryRoles) → parent ≡ c.master.parent → states.now ≡ states_of c.ports → map.now ≡ clocks_of c.ports
+            → AreRolesOf self.old r → HaveAdvanced c r self.new result }
         ensures logs { self.new.seats.logs ≡ fold with_order self.old.seats.logs result }
-        ensures same_table { IsSameTable self.old self.new }
+        ensures same { IsSameTable self.old self.new }
         ensures gener { self.new.generation.gener ≤ self.old.generation.gener + 1 }
     {
-        out.done()
+        let mut told = out;
+        place_edges(states, map, parent, &mut self.next);
+        let count = draft(&self.generations, &self.next, &mut self.drafts);
+        match self.generations.advance(&self.next) {
+            None => told.done(),
+            Some(_) => {
+                give_all(&mut self.seats, &self.drafts[..count], &mut told);
+                told.done()
+            }
+        }
     }
 
+    /// The logs, by rising clocks, the oldest entry first. Takes no memory.
     pub fn part(self) -> Logs
         ensures { result ≡ logs_from 0 self.seats.openings self.seats.logs }
     {
