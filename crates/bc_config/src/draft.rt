@@ -1,5 +1,6 @@
 ghost use Rattle.std.specs.Prelude.{◌≡◌, ◌≤◌, ℕ, length, IfOk};
 ghost use Rattle.bc_history.specs.Drafts.{empty_draft, clocks_of, scenario_of};
+ghost use Rattle.bc_history.specs.ScenarioRules.{IsScenario};
 ghost use Rattle.bc_history.specs.Silent.{default_options, plain_clock, plain_port};
 
 use bc_history::{
@@ -143,8 +144,9 @@ impl Draft {
         }
     }
 
-    /// The scenario that the lines describe.
+    /// The scenario that the lines describe, which keeps the rules.
     pub(crate) fn finish(self) -> Result<Scenario, NoMemory>
+        requires { IsScenario (scenario_of self) }
         ensures { IfOk result (λ s. s ≡ scenario_of self) }
     {
         let Draft {

@@ -364,6 +364,7 @@ const PLAIN_PORT: PortConf = PortConf {
 #[test]
 fn defaults_are_taken(rt: HostRuntime) -> Result<(), Fail> {
     let s = accepted(rt.alloc(), b"#\x00\n\t[port\t01]\r\n").ok_or("refused")?;
+    s.rules();
     assert_eq!(rt; s.options, DEFAULTS);
     assert_eq!(rt; s.clocks.items(), [PLAIN_CLOCK].as_slice());
     assert_eq!(rt; s.ports.items(), [PLAIN_PORT].as_slice());

@@ -1,7 +1,6 @@
 ghost use Rattle.std.specs.Prelude.{◌≡◌, ◌<◌, ◌≤◌, ◌+◌, ℕ, List, None, Some, OnOk, IfOk, IfErr, length};
 ghost use Rattle.text_io.specs.Lines.{words_of, lines_of_text, is_printable};
 ghost use Rattle.bc_history.specs.ScenarioText.{first_of, tests_of, with_role, fault, with_line, end_fault, Stands};
-ghost use Rattle.bc_history.specs.ScenarioRules.{IsScenario};
 ghost use Rattle.bc_config.specs.Phrases.{IsPhrase};
 ghost use Rattle.bc_config.specs.Telling.{Tells};
 ghost use Rattle.bc_config.specs.Refusing.{IsRefusedBy, refusal_at};
@@ -74,12 +73,10 @@ impl Draft {
 }
 
 /// The scenario that a text stands for, or its first faulty line. The text has fewer than
-/// 4,294,967,295 octets. A scenario's numbers are in the ranges of their options, and what it says
-/// is of clocks and ports that it has.
+/// 4,294,967,295 octets. That the scenario keeps the rules, its type says ([`Scenario::rules`]).
 pub fn scenario(alloc: Global, text: &[u8]) -> Result<Scenario, Refusal>
     requires { length text.now < 4294967295 }
     ensures stands { IfOk result (λ s. Stands text.now s) }
-    ensures kept { IfOk result IsScenario }
     ensures refused { IfErr result (λ refusal. IsRefusedBy text.now refusal) }
 {
     let mut draft = Draft::new(alloc);

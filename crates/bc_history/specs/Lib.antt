@@ -21,4 +21,5 @@ pub mod Drafts
 pub mod Lines
 pub mod ScenarioText
 pub mod TextExamples
+pub mod Scenarios
 pub mod ScenarioRules

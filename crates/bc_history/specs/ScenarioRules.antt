@@ -1,4 +1,5 @@
--- What every scenario of a text keeps: ranges, orders and limits. Who has a scenario needs no test of them (own).
+-- What every scenario keeps: ranges, orders and limits. They are the invariant of the type `Scenario`, so who has a
+-- scenario needs no test of them (own).
 use Rattle.std.specs.Prelude.{◌≡◌, ℕ, ℤ, pos, negsuc, ◌*ℤ◌, ◌<◌, ◌≤◌, ◌≤ℤ◌, false, List, length}
 use Rattle.std.specs.List.{All, AllPairs}
 use Rattle.ptp_base.specs.declared.port.PortConf.{PortConf}
@@ -12,7 +13,8 @@ use Rattle.bc_history.specs.declared.scenario.Asked.{Asked}
 use Rattle.bc_history.specs.declared.scenario.Turns.{Turns}
 use Rattle.bc_history.specs.declared.scenario.Turner.{Turner}
 use Rattle.bc_history.specs.declared.scenario.Turner.TheVariants.{Default, Port, Clock, Queries}
-use Rattle.bc_history.specs.declared.scenario.Scenario.{Scenario}
+use Rattle.bc_history.specs.declared.scenario.Scenario.TheInside.{Inside}
+use Rattle.bc_history.specs.Scenarios.{Scenario}
 
 -- no less than the least and no more than the greatest
 abbrev pub IsFrom : (least most n : ℕ) → Type 0
@@ -118,3 +120,7 @@ pub record IsScenario (s : Scenario) : Type 0 where
   pub queries : All IsQuery s.queries
   pub query_order : AllPairs IsQueryBefore s.queries
   pub turns : All (AreTurnsOf (length s.clocks) (length s.ports)) s.turns
+
+-- what the fields of the type `Scenario` say
+abbrev pub said : Inside → Scenario
+said s = record { options = s.options; clocks = s.clocks; ports = s.ports; records = s.records; queries = s.queries; turns = s.turns }

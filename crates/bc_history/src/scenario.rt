@@ -1,5 +1,8 @@
+ghost use Rattle.bc_history.specs.ScenarioRules.{IsScenario};
+
 use model_clock::ClockState;
 use ptp_base::{ClockId, Items, Octets, PortConf};
+use std::marker::Model;
 
 /// The clocks of a scenario as they begin, from clock 0 on.
 pub type ClockStates = Items<ClockState>;
@@ -107,7 +110,9 @@ pub struct Turns {
     pub count: u32,
 }
 
-/// What a run is made from.
+/// What a run is made from. Every scenario keeps the rules: its numbers are in the ranges of their
+/// options, it has 1 to 16 clocks and 1 to 32 ports, what it says is of clocks and ports that it
+/// has, and ticks don't fall.
 #[derive(Debug, Drop)]
 pub struct Scenario {
     pub options: Options,
@@ -116,4 +121,26 @@ pub struct Scenario {
     pub records: RecordList,
     pub queries: AskedList,
     pub turns: TurnsList,
+}
+
+impl Model for Scenario {
+    ghost use Rattle.bc_history.specs.Scenarios.{Scenario as Said};
+
+    ghost Value = { Said };
+
+    ghost use Rattle.bc_history.specs.ScenarioRules.{IsScenario, said};
+
+    ghost view = { said };
+
+    ghost invariant = { λ s. IsScenario (said s) };
+}
+
+impl Scenario {
+    /// Says that the scenario keeps the rules, as every scenario does. It does nothing: who calls
+    /// it is told so.
+    pub fn rules(&self)
+        ensures { IsScenario self.now }
+    {
+        let _ = &self.options;
+    }
 }

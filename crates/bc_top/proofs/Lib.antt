@@ -10,6 +10,7 @@ pub mod Taken
 pub mod AtPorts
 pub mod Lines
 pub mod Texts
+pub mod SilentRules
 pub mod SilentRun
 pub mod SilentWorld
 pub mod Reached

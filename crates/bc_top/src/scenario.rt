@@ -1,5 +1,6 @@
 ghost use Rattle.std.specs.Prelude.{◌≡◌, ℕ, ◌+◌, ◌-◌, ◌*◌, ◌^◌, ◌<◌, ◌≤◌, ◌++◌, IfOk, MatchOption, string_bytes, codes};
 ghost use Rattle.bc_history.specs.Silent.{silent, silent_text, default_options, port_headers, plain_port, plain_clock, StandsFor, StandsForNone};
+ghost use Rattle.bc_top.specs.Silent.{AreBuilt};
 ghost use Rattle.bc_top.specs.Spelled.{IsSpelled, IsSpelledByNone};
 
 use bc_history::{Options, Scenario};
@@ -92,6 +93,7 @@ fn default_options() -> Options
 
 /// So many ports on one clock, for so many seconds.
 fn silent_scenario(alloc: Global, seconds: u8, count: u8) -> Result<Scenario, NoMemory>
+    requires { AreBuilt seconds count }
     ensures { IfOk result (λ s. s ≡ silent seconds count) }
 {
     let clocks = vec![in alloc; plain_clock()]?;

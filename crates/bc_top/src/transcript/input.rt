@@ -1,4 +1,5 @@
 ghost use Rattle.std.specs.Prelude.{◌≡◌, ℕ, List, ◌++◌, OnOk, codes};
+ghost use Rattle.std.specs.Fmt.{decimal};
 ghost use Rattle.ptp_profile.specs.Naming.{◌<>◌};
 ghost use Rattle.bc_history.specs.Text.{reading_text, seen_text, action_text, outcome_text, input_text};
 
@@ -6,7 +7,7 @@ use crate::transcript::names::timer_name;
 use crate::transcript::writer::Writer;
 use bc_history::{Input, Outcome, Seen};
 use ptp_base::NoMemory;
-use ptp_profile::Action;
+use ptp_profile::{Action, Lead};
 
 /// Adds a reading: after how many entries, the value and the frequency.
 fn push_reading(out: &mut Writer, seen: &Seen) -> Result<(), NoMemory>
@@ -61,6 +62,27 @@ fn push_exchange(out: &mut Writer, action: &Action, outcome: &Outcome) -> Result
     push_outcome(out, outcome)
 }
 
+/// Adds which clock's follower sampled at which tick, whom it followed, and both readings.
+fn push_sample(
+    out: &mut Writer,
+    clock: u8,
+    tick: u64,
+    lead: &Lead,
+    theirs: &Seen,
+    own: &Seen,
+) -> Result<(), NoMemory>
+    ensures { OnOk result (out.new ≡ out.old ++ (codes "clock " <> decimal clock <> codes " sampled " <> decimal tick <> codes " " <> decimal lead.now.gener <> codes " " <> decimal lead.now.source <> codes " theirs " <> reading_text theirs.now <> codes " own " <> reading_text own.now)) }
+{
+    write!(
+        out,
+        "clock {clock} sampled {tick} {} {} theirs ",
+        lead.gener, lead.source
+    )?;
+    push_reading(out, theirs)?;
+    write!(out, " own ")?;
+    push_reading(out, own)
+}
+
 /// Adds what came to the hub.
 pub fn push_input(out: &mut Writer, input: &Input) -> Result<(), NoMemory>
     ensures { OnOk result (out.new ≡ out.old ++ input_text input.now) }
@@ -95,14 +117,7 @@ pub fn push_input(out: &mut Writer, input: &Input) -> Result<(), NoMemory>
             action,
             outcome,
         } => {
-            write!(
-                out,
-                "clock {clock} sampled {tick} {} {} theirs ",
-                lead.gener, lead.source
-            )?;
-            push_reading(out, theirs)?;
-            write!(out, " own ")?;
-            push_reading(out, own)?;
+            push_sample(out, *clock, *tick, lead, theirs, own)?;
             push_exchange(out, action, outcome)
         }
         Input::Query { tick, text } => {

@@ -1,4 +1,5 @@
-use Rattle.std.proofs.Common.{sym, arith}
+use Rattle.std.proofs.Common.{refl, sym, arith}
+use Rattle.bc_history.specs.Drafts.{scenario_of}
 use Rattle.bc_history.proofs.Rules.{scenario_keeps}
 use Rattle.bc_config.proofs.Reading.{step, refused, end_faulty, stands, number_fits}
 use Rattle.bc_config.proofs.text.scenario.Goals as goal
@@ -18,6 +19,11 @@ pub returns-in-Some-end_fault-clause-refused : goal.returns-in-Some-end_fault-cl
 returns-in-Some-end_fault-clause-refused c =
     end_faulty c.args.text.now c.loop-line.lines c.loop-line.number c.loop-line.draft c.in-Some-end_fault.reason c.loop-line.invariant c.in_default.ensures.steps.0 (sym c.in-Some-end_fault.ensures)
 
+pub finish-requires : goal.finish-requires
+finish-requires c =
+    scenario_keeps c.args.text.now (scenario_of c.loop-line.draft)
+    (stands c.args.text.now c.loop-line.lines c.loop-line.number c.loop-line.draft (scenario_of c.loop-line.draft) c.loop-line.invariant c.in_default.ensures.steps.0 (sym c.in_default-end_fault.ensures) refl)
+
 pub returns-in-Err-clause-refused : goal.returns-in-Err-clause-refused
 returns-in-Err-clause-refused c =
     rw c.refused.ensures (refused c.args.text.now c.loop-line.lines c.loop-line.number c.loop-line.draft c.in-Some.line.now c.next.new.self c.in-Err.error c.loop-line.invariant c.in-Some.ensures.steps c.in-Err.ensures.err)
@@ -26,5 +32,3 @@ pub returns-in-Ok-clause-stands : goal.returns-in-Ok-clause-stands
 returns-in-Ok-clause-stands c =
     stands c.args.text.now c.loop-line.lines c.loop-line.number c.loop-line.draft c.in-Ok.scenario c.loop-line.invariant c.in_default.ensures.steps.0 (sym c.in_default-end_fault.ensures) c.in-Ok.ensures
 
-pub returns-in-Ok-clause-kept : goal.returns-in-Ok-clause-kept
-returns-in-Ok-clause-kept c = scenario_keeps c.args.text.now c.in-Ok.scenario (returns-in-Ok-clause-stands c)
