@@ -74,8 +74,8 @@ pub made-at : (s : Scenario) (entries : List Entry) (m : Machine) (input : Input
     → IsMachine s m (state_of s entries) → IsServed input → IsDue s (state_of s entries) input
     → option_and_then (port_at m.clocks.items) (port_of input) ≡ Some clock → value ≡ value_of seen → before ≡ []
     → ((c : Core) (orders : List RoleOrder) (reading : Option Seen) (k : ℕ) → value_of reading ≡ value → IsSetAt input c.ports
-        → IsSomeAnd (option_and_then (port_at c.ports) (port_of input)) (λ h. h.port.conf.clock ≡ k) → IsCore m.options.delay_filter_length m.state c
-        → IsMade m.options orders (event input reading) c new before after k made)
+    → IsSomeAnd (option_and_then (port_at c.ports) (port_of input)) (λ h. h.port.conf.clock ≡ k) → IsCore m.options.delay_filter_length m.state c
+    → IsMade m.options orders (event input reading) c new before after k made)
     → IsMade s.options (state_of s entries).roles.orders (event input seen) (state_of s entries).core new [] after clock made
 made-at s entries m input clock seen value new before after made machine served due at value_is empty each =
     let h = state_of s entries in
@@ -131,9 +131,9 @@ effects-at s entries input seen clock number held new after made roles orders se
     let numbers : Some x.number ≡ Some number = sym x.of ∙ of in
     let same : x.number ≡ number = cc in
     same_effects _ _ _ _ _ _ _ _ _ _ _ _ _ _ is.fate is.states is.parent went.orders_are
-        (measure-known h.roles.orders held clock made.measure at stamp ∙ is.measure)
-        (sends-known o e h.core x.port number after (there-at h.core.ports input x) ((placed-due s entries input x).number_is ∙ same) is.frames)
-        (sym (told-none o (core_after o h e) (generation (core_after o h e) h.roles) input _ served))
+    (measure-known h.roles.orders held clock made.measure at stamp ∙ is.measure)
+    (sends-known o e h.core x.port number after (there-at h.core.ports input x) ((placed-due s entries input x).number_is ∙ same) is.frames)
+    (sym (told-none o (core_after o h e) (generation (core_after o h e) h.roles) input _ served))
 
 pub moment-at : (s : Scenario) (entries : List Entry) (input : Input) (seen : Option Seen) (n moment : ℕ) (new : Now) → moment ≡ new.moment
     → IsCore n new (core_after s.options (state_of s entries) (event input seen)) → moment ≡ (entry_after s entries input seen).moment

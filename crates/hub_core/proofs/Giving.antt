@@ -179,11 +179,10 @@ all-allowed gener seats [] are room forests takes = tt
 all-allowed gener seats (order ∷ orders) are room forests takes =
     let is : IsOrder (length seats.logs) order = All-head (IsOrder (length seats.logs)) order orders are in
     let own : Takes gener (get_or seats.logs order.clock []) (order ∷ filter (on order.clock) orders) = taken-own gener order orders seats.logs takes is.there in
-    let long : length (given seats.logs order) ≡ length seats.logs = length-set seats.logs order.clock (ordered order (get_or seats.logs order.clock [])) in
-    (
+    let long : length (given seats.logs order) ≡ length seats.logs = length-set seats.logs order.clock (ordered order (get_or seats.logs order.clock [])) in (
       record { there = is.there; spare = omega arith; ctrl = is.ctrl; gener = is.gener; follows = own.0; forest = forests 1; few = own.1 },
       all-allowed gener (with_given seats order) orders
-      (subst (λ (n : ℕ). All (IsOrder n) orders) (sym long) (All-tail (IsOrder (length seats.logs)) order orders are)) (omega arith)
-      (λ k. subst (λ (ctrls : List ℕ). IsForest (ctrls_after ctrls (take k orders))) (sym (ctrls-given seats.logs order)) (forests (suc k)))
-      (take-given gener order orders seats.logs takes is.there),
+          (subst (λ (n : ℕ). All (IsOrder n) orders) (sym long) (All-tail (IsOrder (length seats.logs)) order orders are)) (omega arith)
+          (λ k. subst (λ (ctrls : List ℕ). IsForest (ctrls_after ctrls (take k orders))) (sym (ctrls-given seats.logs order)) (forests (suc k)))
+          (take-given gener order orders seats.logs takes is.there),
     )

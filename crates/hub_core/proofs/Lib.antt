@@ -13,6 +13,7 @@ pub mod Copying
 pub mod Beginning
 pub mod Machines
 pub mod Entries
+pub mod Bounds
 pub mod Giving
 pub mod Advancing
 pub mod Holding

@@ -3,7 +3,6 @@ ghost use Rattle.ptp_profile.specs.Timers.{due_of};
 ghost use Rattle.bc_history.specs.History.{IsHistory};
 ghost use Rattle.bc_history.specs.Inputs.{port_at};
 ghost use Rattle.bc_history.specs.Next.{IsDue};
-ghost use Rattle.bc_history.specs.ScenarioRules.{IsScenario};
 ghost use Rattle.bc_history.specs.State.{HubPort};
 ghost use Rattle.bc_history.specs.Step.{state_of};
 ghost use Rattle.discipline_seat.specs.Seats.{logs_from};
@@ -67,9 +66,9 @@ impl Model for Hub {
 impl Hub {
     /// A hub before its first event.
     pub fn new(alloc: Global, s: &Scenario) -> Result<Hub, NoMemory>
-        requires rules { IsScenario s.now }
         ensures { IfOk result (λ hub. hub ≡ opened s.now) }
     {
+        s.rules();
         Ok(Hub {
             alloc,
             scenario: Snapshot::of(s),

@@ -155,6 +155,7 @@ fn advance(
     requires room { HasPlacesFor (2 * length roles.old.seats.logs) out }
     ensures advanced { (n : ℕ) (c : Core) (r : model.Roles) → IsCore n state.now c → clocks.now ≡ clocks_of c.ports → AreRolesOf roles.old r → HaveAdvanced c r roles.new result }
     ensures logs { roles.new.seats.logs ≡ fold with_order roles.old.seats.logs result }
+    ensures short { length result ≤ 2 * length roles.old.seats.logs }
     ensures same { IsSameTable roles.old roles.new }
     ensures gener { roles.new.generation.gener ≤ roles.old.generation.gener + 1 }
     ensures places { HasPlaces state.now.ports.len stages.new }

@@ -1,7 +1,7 @@
 ghost use Rattle.std.specs.Prelude.{◌≡◌, ℕ, ◌+◌, ◌≤◌, List, [], length, map, All, IfOk};
 ghost use Rattle.ptp_base.specs.declared.port.PortConf.{PortConf};
 ghost use Rattle.bc_history.specs.Opening.{open_ports, opening, own_of, own_port, own_quality};
-ghost use Rattle.bc_history.specs.ScenarioRules.{IsPortConf, IsScenario};
+ghost use Rattle.bc_history.specs.ScenarioRules.{IsPortConf};
 ghost use Rattle.hub_core.specs.Machine.{IsMachine};
 ghost use Rattle.hub_core.specs.Opened.{ArePortsFrom, IsOpenPort, IsOpened};
 ghost use Rattle.hub_core.specs.Standing.{StandsFor};
@@ -109,9 +109,9 @@ fn clocks_of(alloc: Global, confs: &[PortConf]) -> Result<Vec<u8>, NoMemory>
 impl Now {
     /// Ports and data sets as a run begins: every port in LISTENING, and the own clock as master.
     pub fn new(alloc: Global, s: &Scenario) -> Result<Now, NoMemory>
-        requires { IsScenario s.now }
         ensures { IfOk result (IsOpened s.now) }
     {
+        s.rules();
         let own = own_of(&s.options);
         Ok(Now {
             moment: 0,
@@ -124,11 +124,11 @@ impl Now {
 impl Machine {
     /// As a run begins.
     pub fn new(alloc: Global, s: &Scenario) -> Result<Machine, NoMemory>
-        requires { IsScenario s.now }
         ensures machine { IfOk result (λ m. IsMachine s.now m (opening s.now)) }
         ensures logs { IfOk result (λ m. m.roles.seats.logs ≡ map (λ clock. []) s.now.clocks) }
         ensures gener { IfOk result (λ m. m.roles.generation.gener ≡ 0) }
     {
+        s.rules();
         let ports = s.ports.len();
         Ok(Machine {
             options: s.options,

@@ -165,6 +165,7 @@ impl Roles {
         ensures advanced { (c : Core) (r : HistoryRoles) → parent ≡ c.master.parent → states.now ≡ states_of c.ports → map.now ≡ clocks_of c.ports
             → AreRolesOf self.old r → HaveAdvanced c r self.new result }
         ensures logs { self.new.seats.logs ≡ fold with_order self.old.seats.logs result }
+        ensures short { length result ≤ 2 * length self.old.seats.logs }
         ensures same { IsSameTable self.old self.new }
         ensures gener { self.new.generation.gener ≤ self.old.generation.gener + 1 }
     {

@@ -1,4 +1,0 @@
-use Rattle.hub_core.proofs.hub.Hub.due.Goals as goal
-
-pub returns : goal.returns
-returns c = ?
