@@ -1,9 +1,9 @@
 -- The seats take the orders of a generation.
-use Rattle.std.proofs.Common.{◌≡◌, ◌≢◌, ℕ, zero, suc, ◌+◌, ◌*◌, ◌<◌, ◌≤◌, ◌⊎◌, Bool, true, false, cond, eqb, inl, inr, refl, sym, ap, ◌∙◌, subst, List, [], ◌∷◌, ◌++◌, length, map, get_or, set, take, fold, Option, Some, None, arith, eq-eqb}
+use Rattle.std.proofs.Common.{◌≡◌, ℕ, suc, ◌+◌, ◌*◌, ◌<◌, ◌≤◌, Bool, true, false, cond, eqb, inl, inr, refl, sym, ap, ◌∙◌, subst, List, [], ◌∷◌, ◌++◌, length, get_or, set, take, fold, Option, Some, None, arith, eq-eqb}
 use Rattle.std.specs.Prelude.{All, filter}
 use Rattle.std.proofs.lemmas.Bool.Decides.{eqb_tells}
 use Rattle.std.proofs.lemmas.List.{map-set, length-set, get_or-set_same, get_or-set_other}
-use Rattle.std.proofs.lemmas.List.Elements.{All-nil, All-cons, All-head, All-tail, All-append, All-same}
+use Rattle.std.proofs.lemmas.List.Elements.{All-nil, All-cons, All-head, All-tail, All-append}
 use Rattle.ptp_profile.specs.declared.roles.Edge.{Edge}
 use Rattle.ptp_profile.specs.declared.roles.RoleOrder.{RoleOrder}
 use Rattle.ptp_profile.specs.declared.seats.LogEntry.{LogEntry}
@@ -12,8 +12,8 @@ use Rattle.ptp_profile.specs.Forest.{IsForest, ctrls_after, ctrls_by}
 use Rattle.ptp_profile.specs.Logs.{stamp_after}
 use Rattle.ptp_profile.specs.Roles.{ctrl_by, edge_at, grant, grants_from, is_same_edge, orders_of, revoke, revokes_from}
 use Rattle.ptp_profile.proofs.GenerationLemmas.{filter-orders}
-use Rattle.discipline_seat.specs.Seats.{log_of, order_count, Follows, IsCtrl, Seats}
-use Rattle.hub_core.specs.Holding.{ctrls_in, with_given, AreAllowed, HasHolder, IsAllowed, KeepsUp}
+use Rattle.discipline_seat.specs.Seats.{order_count, Follows, IsCtrl, Seats}
+use Rattle.hub_core.specs.Holding.{ctrls_in, with_given, AreAllowed, HasHolder, KeepsUp}
 
 -- ---- single orders
 -- an order to a clock that is there, for nobody or a controller that may hold it
@@ -179,11 +179,10 @@ all-allowed gener seats [] are room forests takes = tt
 all-allowed gener seats (order ∷ orders) are room forests takes =
     let is : IsOrder (length seats.logs) order = All-head (IsOrder (length seats.logs)) order orders are in
     let own : Takes gener (get_or seats.logs order.clock []) (order ∷ filter (on order.clock) orders) = taken-own gener order orders seats.logs takes is.there in
-    let long : length (given seats.logs order) ≡ length seats.logs = length-set seats.logs order.clock (ordered order (get_or seats.logs order.clock [])) in
-    (
+    let long : length (given seats.logs order) ≡ length seats.logs = length-set seats.logs order.clock (ordered order (get_or seats.logs order.clock [])) in (
       record { there = is.there; spare = omega arith; ctrl = is.ctrl; gener = is.gener; follows = own.0; forest = forests 1; few = own.1 },
       all-allowed gener (with_given seats order) orders
-      (subst (λ (n : ℕ). All (IsOrder n) orders) (sym long) (All-tail (IsOrder (length seats.logs)) order orders are)) (omega arith)
-      (λ k. subst (λ (ctrls : List ℕ). IsForest (ctrls_after ctrls (take k orders))) (sym (ctrls-given seats.logs order)) (forests (suc k)))
-      (take-given gener order orders seats.logs takes is.there),
+          (subst (λ (n : ℕ). All (IsOrder n) orders) (sym long) (All-tail (IsOrder (length seats.logs)) order orders are)) (omega arith)
+          (λ k. subst (λ (ctrls : List ℕ). IsForest (ctrls_after ctrls (take k orders))) (sym (ctrls-given seats.logs order)) (forests (suc k)))
+          (take-given gener order orders seats.logs takes is.there),
     )

@@ -7,7 +7,7 @@ ghost use Rattle.bc_history.specs.Generations.{states_of, clocks_of};
 ghost use Rattle.bc_history.specs.State.{Core, Roles as HistoryRoles};
 ghost use Rattle.bc_history.specs.World.{with_order};
 ghost use Rattle.hub_core.specs.Rolling.{no_roles, AreRolesOf, HaveAdvanced, IsSameTable};
-ghost use Rattle.hub_core.specs.Holding.{with_given, AreAllowed, IsAllowed};
+ghost use Rattle.hub_core.specs.Holding.{with_given, AreAllowed, HasGone, IsAllowed};
 
 use discipline_seat::{Logs, PlainSeats, Reading};
 use model_clock::ClockState;
@@ -91,6 +91,33 @@ fn give_all(seats: &mut PlainSeats, drafts: &[RoleOrder], out: &mut Room<RoleOrd
     }
 }
 
+/// Begins the generation of these edges and orders, where an edge differs: gives the orders to the
+/// seats, and tells them.
+fn go_on(
+    generations: &mut Generations,
+    seats: &mut PlainSeats,
+    next: &[Option<Edge>],
+    drafts: &[RoleOrder],
+    out: Room<RoleOrder>,
+) -> Items<RoleOrder>
+    requires same { length next.now ≡ length generations.old.edges }
+    requires below { generations.old.gener < 131071 }
+    requires drafts { drafts.now ≡ orders_of (generations.old.gener + 1) generations.old.edges next.now }
+    requires allowed { AreAllowed seats.old drafts.now }
+    requires empty { out.items ≡ [] }
+    requires room { length drafts.now ≤ out.spare }
+    ensures { HasGone (record { generation = generations.old; seats = seats.old }) next.now (record { generation = generations.new; seats = seats.new }) result }
+{
+    let mut told = out;
+    match generations.advance(next) {
+        None => told.done(),
+        Some(_) => {
+            give_all(seats, drafts, &mut told);
+            told.done()
+        }
+    }
+}
+
 impl Roles {
     /// Before the first generation: nothing drives any of 1 to 16 clocks in these states, and their
     /// logs are empty. No change makes a log longer than `rows`, which is from 1 to 262,143.
@@ -160,16 +187,15 @@ impl Roles {
         ensures same { IsSameTable self.old self.new }
         ensures gener { self.new.generation.gener ≤ self.old.generation.gener + 1 }
     {
-        let mut told = out;
         place_edges(states, map, parent, &mut self.next);
         let count = draft(&self.generations, &self.next, &mut self.drafts);
-        match self.generations.advance(&self.next) {
-            None => told.done(),
-            Some(_) => {
-                give_all(&mut self.seats, &self.drafts[..count], &mut told);
-                told.done()
-            }
-        }
+        go_on(
+            &mut self.generations,
+            &mut self.seats,
+            &self.next,
+            &self.drafts[..count],
+            out,
+        )
     }
 
     /// The logs, by rising clocks, the oldest entry first. Takes no memory.
