@@ -132,9 +132,6 @@ take-given gener order orders logs takes there c d lt =
           (subst (λ (b : Bool). Takes gener (get_or logs c d) (cond b (order ∷ filter (on c) orders) (filter (on c) orders))) f.0 (takes c d within))
     ]
 
-ctrl_of_log : List LogEntry → ℕ
-ctrl_of_log log = (stamp_after log).ctrl
-
 -- the controllers after an order
 pub ctrls-given : (logs : List (List LogEntry)) (order : RoleOrder) → ctrls_in (given logs order) ≡ ctrls_by (ctrls_in logs) order
 ctrls-given logs order = map-set (λ (log : List LogEntry). (stamp_after log).ctrl) logs order.clock (ordered order (get_or logs order.clock []))

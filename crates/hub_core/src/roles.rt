@@ -143,7 +143,7 @@ impl Roles {
         })
     }
 
-    /// Makes room for the orders of one generation, or leaves all as before.
+    /// Makes room for the orders of one generation, two for each clock, or leaves all as before.
     pub fn reserve(&mut self) -> Result<(), NoMemory>
         ensures ok { OnOk result (2 * length self.new.seats.logs ≤ self.new.seats.spare) }
         ensures same { self.new ≡ record self.old { seats = record self.old.seats { spare = self.new.seats.spare } } }
@@ -165,7 +165,9 @@ impl Roles {
 
     /// Begins the next generation where the edges that the ports' states give differ, the parent
     /// included, gives its orders to the seats and tells them: revokes, then grants, each by rising
-    /// clocks. `map` has the clock of each port. Takes no memory.
+    /// clocks. `states` and `map` have the state and the clock of each port, of which there are at most
+    /// 32 and at most one follows. The generation is below 131,071, and `out` is empty and has two
+    /// places for each clock, as the seats have. Takes no memory.
     pub fn advance(
         &mut self,
         states: &[PortState],
