@@ -1,7 +1,6 @@
 -- The roles go on by a generation.
-use Rattle.std.proofs.Common.{◌≡◌, ◌≢◌, ℕ, zero, suc, ◌+◌, ◌*◌, ◌<◌, ◌≤◌, ◌⊎◌, Bool, true, false, cond, inl, inr, refl, sym, ap, ◌∙◌, subst, List, [], ◌∷◌, ◌++◌, length, map, get_or, set, fold, reverse, Option, Some, None, arith, append_assoc}
+use Rattle.std.proofs.Common.{◌≡◌, ◌≢◌, ℕ, zero, suc, ◌+◌, Bool, true, false, cond, inl, inr, refl, sym, ap, ◌∙◌, subst, List, [], ◌∷◌, ◌++◌, length, map, get_or, set, fold, reverse, Option, Some, append_assoc}
 use Rattle.std.specs.Prelude.{not, slice_get}
-use Rattle.std.proofs.lemmas.Bool.Decides.{eqb_tells}
 use Rattle.std.proofs.lemmas.Bool.{cases_eq}
 use Rattle.std.proofs.lemmas.List.{reverse-append}
 use Rattle.model_clock.specs.declared.state.ClockState.{ClockState}
@@ -11,17 +10,16 @@ use Rattle.ptp_profile.specs.declared.roles.Edge.{Edge}
 use Rattle.ptp_profile.specs.declared.roles.RoleOrder.{RoleOrder}
 use Rattle.ptp_profile.specs.declared.seats.LogEntry.{LogEntry}
 use Rattle.ptp_profile.specs.Logs.{stamp_after, IsLawful}
-use Rattle.ptp_profile.specs.Roles.{are_same_edges, edges_of, orders_of, stamp_of, Stamp}
+use Rattle.ptp_profile.specs.Roles.{are_same_edges, edges_of, orders_of, stamp_of}
 use Rattle.ptp_profile.proofs.LogLemmas.{stamp_after-lawful, IsLawful-opened, IsLawful-ordered, IsLawful-elsewhere}
 use Rattle.bc_history.specs.declared.scenario.Scenario.{Scenario}
-use Rattle.bc_history.specs.Generations.{begins, clocks_of, edges_now, generation, orders_now, states_of}
+use Rattle.bc_history.specs.Generations.{clocks_of, edges_now, generation, orders_now, states_of}
 use Rattle.bc_history.specs.Inputs.{changed_at}
 use Rattle.bc_history.specs.Opening.{opening}
 use Rattle.bc_history.specs.State.{Core, Roles}
 use Rattle.bc_history.specs.World.{with_order}
-use Rattle.role_gen.specs.Generations.{Generation}
 use Rattle.discipline_seat.specs.Seats.{Seats}
-use Rattle.hub_core.specs.Holding.{with_given}
+use Rattle.hub_core.specs.Holding.{begun, orders_to, with_given, HasGone}
 use Rattle.hub_core.specs.Rolling.{no_roles, AreLawful, AreRolesOf, HaveAdvanced, Rolling}
 use Rattle.hub_core.proofs.Giving.{given, logs-given, ordered}
 
@@ -83,12 +81,6 @@ lawful-all (order ∷ orders) befores logs lawful =
     (lawful-all orders (order ∷ befores) (with_order logs order) (lawful-one order befores logs lawful))
 
 -- ---- the history's roles
-abbrev pub rolling : Generation → Seats → Rolling
-rolling generation seats = record { generation = generation; seats = seats }
-
-abbrev pub begun : ℕ → List (Option Edge) → Generation
-begun gener edges = record { gener = gener; edges = edges }
-
 abbrev roles_of : List (Option Edge) → ℕ → List RoleOrder → Roles
 roles_of edges gener orders = record { edges = edges; gener = gener; orders = orders }
 
@@ -117,35 +109,46 @@ edges-same c r n old parent states clocks long edges parents state clock =
     ∙ ap (λ (s : List PortState). edges_of (length r.edges) c.master.parent s clocks) state
     ∙ ap (λ (m : List ℕ). edges_of (length r.edges) c.master.parent (states_of c.ports) m) clock
 
-pub advanced-same : (c : Core) (r : Roles) (old : Rolling) (news : List (Option Edge)) (told : List RoleOrder) → AreRolesOf old r → news ≡ edges_now c r
-    → are_same_edges old.generation.edges news ≡ true → told ≡ [] → HaveAdvanced c r old told
-advanced-same c r old news told h is same none =
+advanced_if : (b : Bool) (c : Core) (r : Roles) (v : Rolling) (news : List (Option Edge)) → AreRolesOf v r → news ≡ edges_now c r
+    → are_same_edges v.generation.edges news ≡ b → HaveAdvanced c r (cond b v (begun v news)) (cond b [] (orders_to v news))
+advanced_if true c r v news h is same =
     let equal : are_same_edges r.edges (edges_now c r) ≡ true =
     ap (λ (es : List (Option Edge)). are_same_edges r.edges es) (sym is) ∙ ap (λ (es : List (Option Edge)). are_same_edges es news) (sym h.edges) ∙ same in
-    record { roles = subst (AreRolesOf old) (sym (stays c r equal)) h; orders_are = none ∙ sym (orders_if true c r equal) }
-
-pub advanced-begun : (c : Core) (r : Roles) (old : Rolling) (news : List (Option Edge)) → AreRolesOf old r → news ≡ edges_now c r
-    → are_same_edges old.generation.edges news ≡ false
-    → HaveAdvanced c r (rolling (begun (old.generation.gener + 1) news) (fold with_given old.seats (orders_of (old.generation.gener + 1) old.generation.edges news)))
-    (orders_of (old.generation.gener + 1) old.generation.edges news)
-advanced-begun c r old news h is differ =
+    record { roles = subst (AreRolesOf v) (sym (stays c r equal)) h; orders_are = sym (orders_if true c r equal) }
+advanced_if false c r v news h is differ =
     let other : are_same_edges r.edges (edges_now c r) ≡ false =
     ap (λ (es : List (Option Edge)). are_same_edges r.edges es) (sym is) ∙ ap (λ (es : List (Option Edge)). are_same_edges es news) (sym h.edges) ∙ differ in
-    let orders : List RoleOrder = orders_of (old.generation.gener + 1) old.generation.edges news in
+    let orders : List RoleOrder = orders_to v news in
     let same : orders ≡ orders_of (r.gener + 1) r.edges (edges_now c r) =
-    ap (λ (g : ℕ). orders_of (g + 1) old.generation.edges news) h.gener ∙ ap (λ (es : List (Option Edge)). orders_of (r.gener + 1) es news) h.edges
+    ap (λ (g : ℕ). orders_of (g + 1) v.generation.edges news) h.gener ∙ ap (λ (es : List (Option Edge)). orders_of (r.gener + 1) es news) h.edges
     ∙ ap (λ (es : List (Option Edge)). orders_of (r.gener + 1) r.edges es) is in
-    let new : Rolling = rolling (begun (old.generation.gener + 1) news) (fold with_given old.seats orders) in
-    let lawful : AreLawful (reverse orders ++ r.orders) (fold with_given old.seats orders).logs =
-    subst (λ (logs : List (List LogEntry)). AreLawful (reverse orders ++ r.orders) logs) (sym (logs-ordered old.seats orders))
-    (lawful-all orders r.orders old.seats.logs h.lawful) in
-    let roles : AreRolesOf new (roles_of (edges_now c r) (r.gener + 1) (reverse (orders_of (r.gener + 1) r.edges (edges_now c r)) ++ r.orders)) =
+    let lawful : AreLawful (reverse orders ++ r.orders) (fold with_given v.seats orders).logs =
+    subst (λ (logs : List (List LogEntry)). AreLawful (reverse orders ++ r.orders) logs) (sym (logs-ordered v.seats orders))
+    (lawful-all orders r.orders v.seats.logs h.lawful) in
+    let roles : AreRolesOf (begun v news) (roles_of (edges_now c r) (r.gener + 1) (reverse (orders_of (r.gener + 1) r.edges (edges_now c r)) ++ r.orders)) =
     record {
       gener = ap (λ (g : ℕ). g + 1) h.gener;
       edges = is;
-      lawful = subst (λ (os : List RoleOrder). AreLawful (reverse os ++ r.orders) (fold with_given old.seats orders).logs) same lawful;
+      lawful = subst (λ (os : List RoleOrder). AreLawful (reverse os ++ r.orders) (fold with_given v.seats orders).logs) same lawful;
     } in
-    record { roles = subst (AreRolesOf new) (sym (goes c r other)) roles; orders_are = same ∙ sym (orders_if false c r other) }
+    record { roles = subst (AreRolesOf (begun v news)) (sym (goes c r other)) roles; orders_are = same ∙ sym (orders_if false c r other) }
+
+-- the history's roles go on likewise
+pub HasGone-advanced : (c : Core) (r : Roles) (v new : Rolling) (news : List (Option Edge)) (told : List RoleOrder) → HasGone v news new told → AreRolesOf v r
+    → news ≡ edges_now c r → HaveAdvanced c r new told
+HasGone-advanced c r v new news told g h is =
+    let b : Bool = are_same_edges v.generation.edges news in
+    subst (λ (w : Rolling). HaveAdvanced c r w told) (sym g.new_is) (subst (λ (os : List RoleOrder). HaveAdvanced c r (cond b v (begun v news)) os) (sym g.told_is)
+    (advanced_if b c r v news h is refl))
+
+logs_if : (b : Bool) (v : Rolling) (news : List (Option Edge)) → (cond b v (begun v news)).seats.logs ≡ fold with_order v.seats.logs (cond b [] (orders_to v news))
+logs_if true v news = refl
+logs_if false v news = logs-ordered v.seats (orders_to v news)
+
+-- the logs have the orders that were told
+pub HasGone-logs : (v new : Rolling) (news : List (Option Edge)) (told : List RoleOrder) → HasGone v news new told → new.seats.logs ≡ fold with_order v.seats.logs told
+HasGone-logs v new news told g =
+    ap (λ (w : Rolling). w.seats.logs) g.new_is ∙ logs_if (are_same_edges v.generation.edges news) v news ∙ ap (λ (os : List RoleOrder). fold with_order v.seats.logs os) (sym g.told_is)
 
 -- ---- the opening
 lawful-opened : (clocks : List ClockState) (i clock : ℕ) (log : List LogEntry) → slice_get (map (λ (c : ClockState). []) clocks) i ≡ Some log → IsLawful clock [] log

@@ -1,9 +1,9 @@
 -- The seats take the orders of a generation.
-use Rattle.std.proofs.Common.{◌≡◌, ◌≢◌, ℕ, zero, suc, ◌+◌, ◌*◌, ◌<◌, ◌≤◌, ◌⊎◌, Bool, true, false, cond, eqb, inl, inr, refl, sym, ap, ◌∙◌, subst, List, [], ◌∷◌, ◌++◌, length, map, get_or, set, take, fold, Option, Some, None, arith, eq-eqb}
+use Rattle.std.proofs.Common.{◌≡◌, ℕ, suc, ◌+◌, ◌*◌, ◌<◌, ◌≤◌, Bool, true, false, cond, eqb, inl, inr, refl, sym, ap, ◌∙◌, subst, List, [], ◌∷◌, ◌++◌, length, get_or, set, take, fold, Option, Some, None, arith, eq-eqb}
 use Rattle.std.specs.Prelude.{All, filter}
 use Rattle.std.proofs.lemmas.Bool.Decides.{eqb_tells}
 use Rattle.std.proofs.lemmas.List.{map-set, length-set, get_or-set_same, get_or-set_other}
-use Rattle.std.proofs.lemmas.List.Elements.{All-nil, All-cons, All-head, All-tail, All-append, All-same}
+use Rattle.std.proofs.lemmas.List.Elements.{All-nil, All-cons, All-head, All-tail, All-append}
 use Rattle.ptp_profile.specs.declared.roles.Edge.{Edge}
 use Rattle.ptp_profile.specs.declared.roles.RoleOrder.{RoleOrder}
 use Rattle.ptp_profile.specs.declared.seats.LogEntry.{LogEntry}
@@ -12,8 +12,8 @@ use Rattle.ptp_profile.specs.Forest.{IsForest, ctrls_after, ctrls_by}
 use Rattle.ptp_profile.specs.Logs.{stamp_after}
 use Rattle.ptp_profile.specs.Roles.{ctrl_by, edge_at, grant, grants_from, is_same_edge, orders_of, revoke, revokes_from}
 use Rattle.ptp_profile.proofs.GenerationLemmas.{filter-orders}
-use Rattle.discipline_seat.specs.Seats.{log_of, order_count, Follows, IsCtrl, Seats}
-use Rattle.hub_core.specs.Holding.{ctrls_in, with_given, AreAllowed, HasHolder, IsAllowed, KeepsUp}
+use Rattle.discipline_seat.specs.Seats.{order_count, Follows, IsCtrl, Seats}
+use Rattle.hub_core.specs.Holding.{ctrls_in, with_given, AreAllowed, HasHolder, KeepsUp}
 
 -- ---- single orders
 -- an order to a clock that is there, for nobody or a controller that may hold it
@@ -131,9 +131,6 @@ take-given gener order orders logs takes there c d lt =
           (sym (get_or-set_other logs order.clock c (ordered order (get_or logs order.clock [])) d (λ is. f.1 (sym is))))
           (subst (λ (b : Bool). Takes gener (get_or logs c d) (cond b (order ∷ filter (on c) orders) (filter (on c) orders))) f.0 (takes c d within))
     ]
-
-ctrl_of_log : List LogEntry → ℕ
-ctrl_of_log log = (stamp_after log).ctrl
 
 -- the controllers after an order
 pub ctrls-given : (logs : List (List LogEntry)) (order : RoleOrder) → ctrls_in (given logs order) ≡ ctrls_by (ctrls_in logs) order

@@ -1,5 +1,5 @@
 -- What the roles keep, as a generation begins.
-use Rattle.std.proofs.Common.{◌≡◌, ◌≢◌, ℕ, zero, suc, ◌+◌, ◌*◌, ◌<◌, ◌≤◌, ◌⊎◌, true, inl, inr, refl, sym, ap, ◌∙◌, subst, Bool, false, List, [], ◌∷◌, ◌++◌, length, map, replicate, take, fold, Option, Some, None, arith}
+use Rattle.std.proofs.Common.{◌≡◌, ℕ, zero, suc, ◌+◌, ◌*◌, ◌<◌, ◌≤◌, inl, inr, refl, sym, ap, ◌∙◌, subst, Bool, true, false, cond, List, [], ◌∷◌, length, map, replicate, take, fold, Option, Some, None, arith}
 use Rattle.std.specs.Prelude.{◌↔◌, All, IsTrue, slice_index}
 use Rattle.std.specs.List.{range_with_len, zip}
 use Rattle.std.proofs.lemmas.List.{length-map}
@@ -11,20 +11,16 @@ use Rattle.ptp_base.specs.declared.port.PortState.{PortState}
 use Rattle.ptp_profile.specs.declared.roles.Edge.{Edge}
 use Rattle.ptp_profile.specs.declared.roles.RoleOrder.{RoleOrder}
 use Rattle.ptp_profile.specs.declared.seats.LogEntry.{LogEntry}
-use Rattle.ptp_profile.specs.Forest.{Copies, IsForest, ctrls_after}
-use Rattle.ptp_profile.specs.Roles.{are_same_edges, ctrl_by, ctrls_of, edge_by, edges_of, orders_of, port_on, slave_clock}
+use Rattle.ptp_profile.specs.Forest.{IsForest, ctrls_after}
+use Rattle.ptp_profile.specs.Roles.{are_same_edges, ctrls_of, edge_by, edges_of, orders_of, port_on, slave_clock}
 use Rattle.ptp_profile.proofs.ForestLemmas.{IsForest-edges, IsForest-from_driven}
 use Rattle.ptp_profile.proofs.GenerationLemmas.{length-orders}
 use Rattle.ptp_profile.proofs.OrderLemmas.{after-orders, IsForest-orders}
-use Rattle.bc_history.specs.Generations.{edges_now}
-use Rattle.bc_history.specs.State.{Core, Roles}
-use Rattle.bc_history.specs.World.{with_order}
 use Rattle.role_gen.specs.Generations.{Generation, no_generation}
 use Rattle.role_gen.proofs.Finding.{is_on, length-zip_le, position_from-below, slave_clock-below}
-use Rattle.discipline_seat.specs.Seats.{opened, IsCtrl, Seats}
-use Rattle.hub_core.specs.Holding.{ctrls_in, with_given, AreAllowed, AreEdges, HasHolder, IsRoles, KeepsUp}
-use Rattle.hub_core.specs.Rolling.{no_roles, AreRolesOf, HaveAdvanced, IsSameTable, Rolling}
-use Rattle.hub_core.proofs.Advancing.{advanced-begun, begun, logs-ordered, rolling}
+use Rattle.discipline_seat.specs.Seats.{opened, Seats}
+use Rattle.hub_core.specs.Holding.{begun, ctrls_in, orders_to, with_given, AreAllowed, AreEdges, HasGone, HasHolder, IsRoles, KeepsUp}
+use Rattle.hub_core.specs.Rolling.{IsSameTable, Rolling}
 use Rattle.hub_core.proofs.Giving.{all-allowed, all-take, are-orders, ctrls-after, given, kept-up, length-given, logs-given, openings-given, rows-given}
 
 -- ---- the controllers of edges may hold a clock
@@ -53,6 +49,9 @@ holders clocks n parent states port_clocks few all =
     (range_with_len 0 n)
 
 -- ---- the opening
+abbrev pub rolling : Generation → Seats → Rolling
+rolling generation seats = record { generation = generation; seats = seats }
+
 nobody-holds : (n c : ℕ) → slice_index (ctrls_of (replicate n None)) c ≡ 0
 nobody-holds zero c = refl
 nobody-holds (suc n) zero = refl
@@ -75,7 +74,7 @@ length-edges (suc n) = ap suc (length-edges n)
 
 pub IsRoles-opened : (generation : Generation) (seats : Seats) (rows : ℕ) (clocks : List ClockState) (next : List (Option Edge)) (drafts : List RoleOrder)
     → generation ≡ no_generation (length clocks) → seats ≡ opened rows clocks → 1 ≤ length clocks → length clocks ≤ 16 → length next ≡ length clocks
-    → length drafts ≡ 2 * length clocks → IsRoles (rolling generation seats) next drafts
+    → length drafts ≡ 2 * length clocks → IsRoles (record { generation = generation; seats = seats }) next drafts
 IsRoles-opened generation seats rows clocks next drafts g s some few places pairs =
     let long : length (map (λ (clock : ClockState). []) clocks) ≡ length clocks = length-map {A = ClockState} {B = List LogEntry} clocks (λ clock. []) in
     subst (λ (g : Generation). IsRoles (rolling g seats) next drafts) (sym g)
@@ -92,7 +91,7 @@ IsRoles-opened generation seats rows clocks next drafts g s some few places pair
 
 -- ---- a generation
 -- the places for edges and orders have other contents
-pub IsRoles-stays : (v : Rolling) (next news : List (Option Edge)) (drafts others : List RoleOrder) → IsRoles v next drafts → length news ≡ length next
+IsRoles-stays : (v : Rolling) (next news : List (Option Edge)) (drafts others : List RoleOrder) → IsRoles v next drafts → length news ≡ length next
     → length others ≡ length drafts → IsRoles v news others
 IsRoles-stays v next news drafts others h same long = record {
   some = h.some;
@@ -106,10 +105,12 @@ IsRoles-stays v next news drafts others h same long = record {
 }
 
 -- the seats take the orders
-pub allowed-begun : (generation : Generation) (seats : Seats) (next news : List (Option Edge)) (drafts : List RoleOrder) → IsRoles (rolling generation seats) next drafts
-    → AreEdges (length seats.logs) news → generation.gener < 131071 → 2 * length seats.logs ≤ seats.spare
-    → AreAllowed seats (orders_of (generation.gener + 1) generation.edges news)
-allowed-begun generation seats next news drafts h e below spare =
+pub allowed-begun : (v : Rolling) (next news : List (Option Edge)) (drafts : List RoleOrder) → IsRoles v next drafts
+    → AreEdges (length v.seats.logs) news → v.generation.gener < 131071 → 2 * length v.seats.logs ≤ v.seats.spare
+    → AreAllowed v.seats (orders_to v news)
+allowed-begun v next news drafts h e below spare =
+    let generation : Generation = v.generation in
+    let seats : Seats = v.seats in
     let edges : length generation.edges ≡ length seats.logs = h.edges in
     let same : length generation.edges ≡ length news = edges ∙ sym e.long in
     let few : length (orders_of (generation.gener + 1) generation.edges news) ≤ 2 * length generation.edges = length-orders (generation.gener + 1) generation.edges news in
@@ -118,10 +119,11 @@ allowed-begun generation seats next news drafts h e below spare =
     (λ k. subst (λ (ctrls : List ℕ). IsForest (ctrls_after ctrls (take k (orders_of (generation.gener + 1) generation.edges news)))) (sym h.ctrls) (IsForest-orders (generation.gener + 1) k generation.edges news same h.forest e.forest))
     (all-take generation.gener generation.edges news seats.logs same below h.within)
 
-pub IsRoles-begun : (generation : Generation) (seats : Seats) (next news : List (Option Edge)) (drafts others : List RoleOrder) → IsRoles (rolling generation seats) next drafts
-    → AreEdges (length seats.logs) news → generation.gener < 131071 → length others ≡ length drafts
-    → IsRoles (rolling (begun (generation.gener + 1) news) (fold with_given seats (orders_of (generation.gener + 1) generation.edges news))) news others
-IsRoles-begun generation seats next news drafts others h e below pairs =
+IsRoles-begun : (v : Rolling) (next news : List (Option Edge)) (drafts others : List RoleOrder) → IsRoles v next drafts
+    → AreEdges (length v.seats.logs) news → v.generation.gener < 131071 → length others ≡ length drafts → IsRoles (begun v news) news others
+IsRoles-begun v next news drafts others h e below pairs =
+    let generation : Generation = v.generation in
+    let seats : Seats = v.seats in
     let orders : List RoleOrder = orders_of (generation.gener + 1) generation.edges news in
     let edges : length generation.edges ≡ length seats.logs = h.edges in
     let same : length generation.edges ≡ length news = edges ∙ sym e.long in
@@ -156,54 +158,51 @@ AreEdges-placed v next news drafts parent states port_clocks h few all is =
       holders = holders clocks clocks parent states port_clocks few all;
     })
 
--- ---- what a call leaves
--- a generation began in which the edges became `news`, and its orders were told
-pub record HasBegun (v : Rolling) (news : List (Option Edge)) (new : Rolling) (told : List RoleOrder) : Type 0 where
-  pub differ : are_same_edges v.generation.edges news ≡ false
-  pub new_is : new ≡ rolling (begun (v.generation.gener + 1) news) (fold with_given v.seats (orders_of (v.generation.gener + 1) v.generation.edges news))
-  pub told_is : told ≡ orders_of (v.generation.gener + 1) v.generation.edges news
+-- ---- what a generation leaves
+-- the roles as they were, and the edges, are seen otherwise
+pub has-gone : (v w new : Rolling) (lent news : List (Option Edge)) (told : List RoleOrder) → HasGone v lent new told → lent ≡ news → v ≡ w → HasGone w news new told
+has-gone v w new lent news told g edges view =
+    subst (λ (w : Rolling). HasGone w news new told) view (subst (λ (es : List (Option Edge)). HasGone v es new told) edges g)
 
-differ-from : (b : Bool) (n : ℕ) → (Some n ≡ None) ↔ IsTrue b → b ≡ false
-differ-from true n h = absurd (let none : Some n ≡ None = h.1 refl in cc)
-differ-from false n h = refl
-
-pub has-begun : (v : Rolling) (after : Generation) (seats : Seats) (news lent seen : List (Option Edge)) (drafts read before told : List RoleOrder) (count n : ℕ)
-    → lent ≡ news → seen ≡ news → read ≡ drafts → take count drafts ≡ orders_of (v.generation.gener + 1) v.generation.edges lent
-    → (Some n ≡ None) ↔ IsTrue (are_same_edges v.generation.edges seen) → n ≡ v.generation.gener + 1 → after ≡ begun n seen
-    → seats ≡ fold with_given v.seats (take count read) → before ≡ [] → told ≡ before ++ take count read → HasBegun v news (rolling after seats) told
-has-begun v after seats news lent seen drafts read before told count n lent_is seen_is read_is orders differ next after_is seats_is empty told_is =
-    let all : take count read ≡ orders_of (v.generation.gener + 1) v.generation.edges news =
-    ap (take count) read_is ∙ orders ∙ ap (λ (es : List (Option Edge)). orders_of (v.generation.gener + 1) v.generation.edges es) lent_is in
-    record {
-      differ = ap (λ (es : List (Option Edge)). are_same_edges v.generation.edges es) (sym seen_is) ∙ differ-from (are_same_edges v.generation.edges seen) n differ;
-      new_is =
-          ap (λ (g : Generation). rolling g seats) (after_is ∙ ap (λ (k : ℕ). begun k seen) next ∙ ap (λ (es : List (Option Edge)). begun (v.generation.gener + 1) es) seen_is)
-          ∙ ap (λ (s : Seats). rolling (begun (v.generation.gener + 1) news) s) (seats_is ∙ ap (λ (os : List RoleOrder). fold with_given v.seats os) all);
-      told_is = told_is ∙ ap (λ (os : List RoleOrder). os ++ take count read) empty ∙ all;
-    }
-
-pub HasBegun-advanced : (c : Core) (r : Roles) (v new : Rolling) (news : List (Option Edge)) (told : List RoleOrder) → HasBegun v news new told → AreRolesOf v r
-    → news ≡ edges_now c r → HaveAdvanced c r new told
-HasBegun-advanced c r v new news told b h is =
-    subst (λ (w : Rolling). HaveAdvanced c r w told) (sym b.new_is) (subst (λ (os : List RoleOrder). HaveAdvanced c r (rolling (begun (v.generation.gener + 1) news)
-    (fold with_given v.seats (orders_of (v.generation.gener + 1) v.generation.edges news))) os) (sym b.told_is) (advanced-begun c r v news h is b.differ))
-
-pub HasBegun-logs : (v new : Rolling) (news : List (Option Edge)) (told : List RoleOrder) → HasBegun v news new told → new.seats.logs ≡ fold with_order v.seats.logs told
-HasBegun-logs v new news told b =
-    ap (λ (w : Rolling). w.seats.logs) b.new_is ∙ logs-ordered v.seats (orders_of (v.generation.gener + 1) v.generation.edges news)
-    ∙ ap (λ (os : List RoleOrder). fold with_order v.seats.logs os) (sym b.told_is)
+same_if : (b : Bool) (v : Rolling) (news : List (Option Edge)) → IsSameTable v (cond b v (begun v news))
+same_if true v news = record { rows = refl; openings = refl; clocks = refl }
+same_if false v news = record {
+  rows = rows-given v.seats (orders_to v news);
+  openings = openings-given v.seats (orders_to v news);
+  clocks = ap length (logs-given v.seats (orders_to v news)) ∙ length-given v.seats.logs (orders_to v news);
+}
 
 -- the table stays as it is
-pub HasBegun-same : (v new : Rolling) (news : List (Option Edge)) (told : List RoleOrder) → HasBegun v news new told → IsSameTable v new
-HasBegun-same v new news told b =
-    let orders : List RoleOrder = orders_of (v.generation.gener + 1) v.generation.edges news in
-    subst (λ (w : Rolling). IsSameTable v w) (sym b.new_is) (record {
-      rows = rows-given v.seats orders;
-      openings = openings-given v.seats orders;
-      clocks = ap length (logs-given v.seats orders) ∙ length-given v.seats.logs orders;
-    })
+pub HasGone-same : (v new : Rolling) (news : List (Option Edge)) (told : List RoleOrder) → HasGone v news new told → IsSameTable v new
+HasGone-same v new news told g = subst (λ (w : Rolling). IsSameTable v w) (sym g.new_is) (same_if (are_same_edges v.generation.edges news) v news)
 
-pub HasBegun-roles : (v new : Rolling) (next news : List (Option Edge)) (drafts others told : List RoleOrder) → HasBegun v news new told → IsRoles v next drafts
+roles_if : (b : Bool) (v : Rolling) (next news : List (Option Edge)) (drafts others : List RoleOrder) → IsRoles v next drafts → AreEdges (length v.seats.logs) news
+    → v.generation.gener < 131071 → length others ≡ length drafts → IsRoles (cond b v (begun v news)) news others
+roles_if true v next news drafts others h e below pairs = IsRoles-stays v next news drafts others h (e.long ∙ sym h.places) pairs
+roles_if false v next news drafts others h e below pairs = IsRoles-begun v next news drafts others h e below pairs
+
+-- what is kept is kept on
+pub HasGone-roles : (v new : Rolling) (next news : List (Option Edge)) (drafts others told : List RoleOrder) → HasGone v news new told → IsRoles v next drafts
     → AreEdges (length v.seats.logs) news → v.generation.gener < 131071 → length others ≡ length drafts → IsRoles new news others
-HasBegun-roles v new next news drafts others told b h e below pairs =
-    subst (λ (w : Rolling). IsRoles w news others) (sym b.new_is) (IsRoles-begun v.generation v.seats next news drafts others h e below pairs)
+HasGone-roles v new next news drafts others told g h e below pairs =
+    subst (λ (w : Rolling). IsRoles w news others) (sym g.new_is) (roles_if (are_same_edges v.generation.edges news) v next news drafts others h e below pairs)
+
+gone_some : (b : Bool) (n : ℕ) (v new : Rolling) (news : List (Option Edge)) (told : List RoleOrder) → are_same_edges v.generation.edges news ≡ b → (Some n ≡ None) ↔ IsTrue b
+    → new ≡ begun v news → told ≡ orders_to v news → HasGone v news new told
+gone_some true n v new news told is none new_is told_is = absurd (let not_some : Some n ≡ None = none.1 refl in cc)
+gone_some false n v new news told is none new_is told_is = record {
+  new_is = new_is ∙ sym (ap (λ (b : Bool). cond b v (begun v news)) is);
+  told_is = told_is ∙ sym (ap (λ (b : Bool). cond b [] (orders_to v news)) is);
+}
+
+-- a generation that begins
+pub gone-some : (v new : Rolling) (news : List (Option Edge)) (told : List RoleOrder) (n : ℕ) → (Some n ≡ None) ↔ IsTrue (are_same_edges v.generation.edges news)
+    → new ≡ begun v news → told ≡ orders_to v news → HasGone v news new told
+gone-some v new news told n none new_is told_is = gone_some (are_same_edges v.generation.edges news) n v new news told refl none new_is told_is
+
+-- none
+pub gone-none : (v new : Rolling) (news : List (Option Edge)) (told : List RoleOrder) → are_same_edges v.generation.edges news ≡ true → new ≡ v → told ≡ [] → HasGone v news new told
+gone-none v new news told is new_is told_is = record {
+  new_is = new_is ∙ sym (ap (λ (b : Bool). cond b v (begun v news)) is);
+  told_is = told_is ∙ sym (ap (λ (b : Bool). cond b [] (orders_to v news)) is);
+}

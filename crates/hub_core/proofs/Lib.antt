@@ -14,6 +14,7 @@ pub mod Beginning
 pub mod Machines
 pub mod Entries
 pub mod Bounds
+pub mod Histories
 pub mod Giving
 pub mod Advancing
 pub mod Holding

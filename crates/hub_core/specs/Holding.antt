@@ -1,10 +1,10 @@
 -- What the roles keep of the edges and the logs, and the orders that the seats take.
-use Rattle.std.specs.Prelude.{◌≡◌, ℕ, ◌*◌, ◌<◌, ◌≤◌, List, [], ◌∷◌, length, map, Option, All}
+use Rattle.std.specs.Prelude.{◌≡◌, ℕ, ◌+◌, ◌*◌, ◌<◌, ◌≤◌, if◌then◌else◌, List, [], ◌∷◌, fold, length, map, Option, All}
 use Rattle.ptp_profile.specs.declared.roles.Edge.{Edge}
 use Rattle.ptp_profile.specs.declared.roles.RoleOrder.{RoleOrder}
 use Rattle.ptp_profile.specs.declared.seats.LogEntry.{LogEntry}
 use Rattle.ptp_profile.specs.declared.seats.LogEntry.TheVariants.{Order}
-use Rattle.ptp_profile.specs.Roles.{ctrl_by, ctrls_of}
+use Rattle.ptp_profile.specs.Roles.{are_same_edges, ctrl_by, ctrls_of, orders_of}
 use Rattle.ptp_profile.specs.Forest.{IsForest}
 use Rattle.ptp_profile.specs.Logs.{stamp_after}
 use Rattle.discipline_seat.specs.Seats.{ctrls_with, log_of, order_count, stamp_in, with_entry, Follows, IsCtrl, Seats}
@@ -59,3 +59,16 @@ pub record AreEdges (clocks : ℕ) (news : List (Option Edge)) : Type 0 where
   pub long : length news ≡ clocks
   pub forest : IsForest (ctrls_of news)
   pub holders : All (HasHolder clocks) news
+
+-- the orders of the generation in which the edges become these
+abbrev pub orders_to : Rolling → List (Option Edge) → List RoleOrder
+orders_to v news = orders_of (v.generation.gener + 1) v.generation.edges news
+
+-- that generation has begun, and its orders are given
+abbrev pub begun : Rolling → List (Option Edge) → Rolling
+begun v news = record { generation = record { gener = v.generation.gener + 1; edges = news }; seats = fold with_given v.seats (orders_to v news) }
+
+-- the generation has begun and its orders were told, where an edge differs
+pub record HasGone (v : Rolling) (news : List (Option Edge)) (new : Rolling) (told : List RoleOrder) : Type 0 where
+  pub new_is : new ≡ (if are_same_edges v.generation.edges news then v else begun v news)
+  pub told_is : told ≡ (if are_same_edges v.generation.edges news then [] else orders_to v news)

@@ -4,12 +4,11 @@ use Rattle.ptp_base.specs.declared.port.PortConf.{PortConf}
 use Rattle.ptp_profile.specs.declared.roles.RoleOrder.{RoleOrder}
 use Rattle.ptp_profile.specs.declared.seats.Held.{Held}
 use Rattle.ptp_profile.specs.declared.seats.LogEntry.{LogEntry}
-use Rattle.ptp_profile.specs.Roles.{AtMostOneFollows, stamp_of}
+use Rattle.ptp_profile.specs.Roles.{stamp_of}
 use Rattle.bc_history.specs.declared.entry.Entry.{Entry}
 use Rattle.bc_history.specs.declared.entry.Input.{Input}
 use Rattle.bc_history.specs.declared.scenario.Scenario.{Scenario}
 use Rattle.bc_history.specs.Effects.{entry_after}
-use Rattle.bc_history.specs.Generations.{states_of}
 use Rattle.bc_history.specs.Next.{IsDue}
 use Rattle.bc_history.specs.ScenarioRules.{IsScenario}
 use Rattle.bc_history.specs.State.{Core, State}
@@ -59,12 +58,8 @@ pub record IsAt (m : Machine) (input : Input) : Type 0 where
 abbrev pub IsStampOf : List RoleOrder → Held → Type 0
 IsStampOf orders held = held ≡ record { clock = held.clock; gener = (stamp_of held.clock orders).gener; ctrl = (stamp_of held.clock orders).ctrl }
 
--- the roles may go on by the states of the ports, with the clock of each port
+-- the roles may go on by so many ports, with the clock of each
 pub record HasWay (r : Rolling) (state : Now) (clocks : List ℕ) : Type 0 where
-  pub core : Core
-  pub length_is : ℕ
-  pub is : IsCore length_is state core
-  pub one : AtMostOneFollows (states_of core.ports)
   pub same : length clocks ≡ state.ports.len
   pub few : state.ports.len ≤ 32
   pub placed : All (λ clock. clock < length r.seats.logs) clocks

@@ -1,13 +1,13 @@
 ghost use Rattle.std.specs.Prelude.{◌≡◌, ◌+◌, ◌-◌, ◌*◌, ◌<◌, ◌≤◌, ◌++◌, All, [], ◌∷◌, fold, length, take, IfOk, OnOk, OnErr};
 ghost use Rattle.model_clock.specs.Clock.{IsClock};
-ghost use Rattle.ptp_profile.specs.Roles.{edges_of, orders_of, AtMostOneFollows};
+ghost use Rattle.ptp_profile.specs.Roles.{edges_of, orders_of};
 ghost use Rattle.role_gen.specs.Generations.{HaveCtrls};
 ghost use Rattle.discipline_seat.specs.Seats.{logs_from, reading_of};
 ghost use Rattle.bc_history.specs.Generations.{states_of, clocks_of};
 ghost use Rattle.bc_history.specs.State.{Core, Roles as HistoryRoles};
 ghost use Rattle.bc_history.specs.World.{with_order};
 ghost use Rattle.hub_core.specs.Rolling.{no_roles, AreRolesOf, HaveAdvanced, IsSameTable};
-ghost use Rattle.hub_core.specs.Holding.{with_given, AreAllowed, IsAllowed};
+ghost use Rattle.hub_core.specs.Holding.{with_given, AreAllowed, HasGone, IsAllowed};
 
 use discipline_seat::{Logs, PlainSeats, Reading};
 use model_clock::ClockState;
@@ -91,6 +91,33 @@ fn give_all(seats: &mut PlainSeats, drafts: &[RoleOrder], out: &mut Room<RoleOrd
     }
 }
 
+/// Begins the generation of these edges and orders, where an edge differs: gives the orders to the
+/// seats, and tells them.
+fn go_on(
+    generations: &mut Generations,
+    seats: &mut PlainSeats,
+    next: &[Option<Edge>],
+    drafts: &[RoleOrder],
+    out: Room<RoleOrder>,
+) -> Items<RoleOrder>
+    requires same { length next.now ≡ length generations.old.edges }
+    requires below { generations.old.gener < 131071 }
+    requires drafts { drafts.now ≡ orders_of (generations.old.gener + 1) generations.old.edges next.now }
+    requires allowed { AreAllowed seats.old drafts.now }
+    requires empty { out.items ≡ [] }
+    requires room { length drafts.now ≤ out.spare }
+    ensures { HasGone (record { generation = generations.old; seats = seats.old }) next.now (record { generation = generations.new; seats = seats.new }) result }
+{
+    let mut told = out;
+    match generations.advance(next) {
+        None => told.done(),
+        Some(_) => {
+            give_all(seats, drafts, &mut told);
+            told.done()
+        }
+    }
+}
+
 impl Roles {
     /// Before the first generation: nothing drives any of 1 to 16 clocks in these states, and their
     /// logs are empty. No change makes a log longer than `rows`, which is from 1 to 262,143.
@@ -124,7 +151,7 @@ impl Roles {
         self.next.len()
     }
 
-    /// Makes room for the orders of one generation, or leaves all as before.
+    /// Makes room for the orders of one generation, two for each clock, or leaves all as before.
     pub fn reserve(&mut self) -> Result<(), NoMemory>
         ensures ok { OnOk result (2 * length self.new.seats.logs ≤ self.new.seats.spare) }
         ensures same { self.new ≡ record self.old { seats = record self.old.seats { spare = self.new.seats.spare } } }
@@ -146,7 +173,9 @@ impl Roles {
 
     /// Begins the next generation where the edges that the ports' states give differ, the parent
     /// included, gives its orders to the seats and tells them: revokes, then grants, each by rising
-    /// clocks. `map` has the clock of each port. Takes no memory.
+    /// clocks. `states` and `map` have the state and the clock of each port, of which there are at most
+    /// 32 and at most one follows. The generation is below 131,071, and `out` is empty and has two
+    /// places for each clock, as the seats have. Takes no memory.
     pub fn advance(
         &mut self,
         states: &[PortState],
@@ -157,7 +186,6 @@ impl Roles {
         requires same { length states.now ≡ length map.now }
         requires few { length states.now ≤ 32 }
         requires placed { All (λ clock. clock < length self.old.seats.logs) map.now }
-        requires one { AtMostOneFollows states.now }
         requires below { self.old.generation.gener < 131071 }
         requires empty { out.items ≡ [] }
         requires room { 2 * length self.old.seats.logs ≤ out.spare }
@@ -169,16 +197,15 @@ impl Roles {
         ensures same { IsSameTable self.old self.new }
         ensures gener { self.new.generation.gener ≤ self.old.generation.gener + 1 }
     {
-        let mut told = out;
         place_edges(states, map, parent, &mut self.next);
         let count = draft(&self.generations, &self.next, &mut self.drafts);
-        match self.generations.advance(&self.next) {
-            None => told.done(),
-            Some(_) => {
-                give_all(&mut self.seats, &self.drafts[..count], &mut told);
-                told.done()
-            }
-        }
+        go_on(
+            &mut self.generations,
+            &mut self.seats,
+            &self.next,
+            &self.drafts[..count],
+            out,
+        )
     }
 
     /// The logs, by rising clocks, the oldest entry first. Takes no memory.

@@ -77,21 +77,9 @@ pub advance-orders-requires-clause-way : goal.advance-orders-requires-clause-way
 advance-orders-requires-clause-way c =
     let w = c.requires.at in
     let s = w.scenario in
-    let h = state_of s w.entries in
-    let e : Event = event c.args.input.now c.reading-seen.result in
-    let is = made-at s w.entries c.args.self.now c.args.input.now c.clock_of-clock.result c.reading-seen.result _ c.serve-made.new.self c.args.rooms.frames.items c.serve-made.new.frames.items c.serve-made.result
-        w.machine w.served w.due c.clock_of-clock.ensures (to_z-of_z w64 c.value_of-value.result (search rules) ∙ c.value_of-value.ensures) c.requires.rooms.frames.empty c.serve-made.ensures.made in
-    let one = one_follows s (entry_after s w.entries c.args.input.now c.reading-seen.result ∷ w.entries) in
-    let next = state-next s w.entries c.args.input.now c.reading-seen.result in
-    let A : State → Type 0 = λ x. AtMostOneFollows (states_of x.core.ports) in
-    let O : Core → Type 0 = λ x. AtMostOneFollows (states_of x.ports) in
     let L : List ℕ → Type 0 = λ cs. length cs ≡ c.serve-made.new.self.ports.len in
     let P : List ℕ → Type 0 = λ cs. All (λ clock. clock < length c.args.self.now.roles.seats.logs) cs in
     record {
-      core = core_after s.options h e;
-      length_is = s.options.delay_filter_length;
-      is = is.core;
-      one = subst O (step-core s.options h e) (subst A next one);
       same = subst L (sym c.deref.ensures.value) (clocks-long s c.args.self.now.clocks.items c.args.self.now.state.ports.len w.machine.clocks w.machine.count ∙ sym c.serve-made.ensures.length);
       few = c.serve-made.ensures.of.few;
       placed = subst P (sym c.deref.ensures.value) (clocks-below s c.args.self.now.clocks.items (length c.args.self.now.roles.seats.logs) w.rules w.machine.clocks w.machine.logs);
