@@ -13,10 +13,11 @@ use Rattle.data_sets.specs.declared.port_set.PortSet.{PortSet}
 use Rattle.bc_history.specs.declared.scenario.Options.{Options}
 use Rattle.bc_history.specs.declared.scenario.Scenario.{Scenario}
 use Rattle.bc_history.specs.Opening.{open_ports, opening, own_of}
-use Rattle.hub_core.specs.Opened.{ArePortsFrom, IsOpenPort}
+use Rattle.hub_core.specs.Opened.{ArePortsFrom, IsOpenPort, IsOpened}
 use Rattle.hub_core.specs.Rolling.{AreLawful, AreRolesOf, Rolling, no_roles}
 use Rattle.hub_core.specs.Standing.{AllStandFor, ArePortsOf, IsClockOf}
 use Rattle.hub_core.specs.declared.port.PortNow.{PortNow}
+use Rattle.hub_core.specs.declared.now.Now.{Now}
 
 pub ArePortsFrom-push : (o : Options) (p : ℕ) (qs : List PortNow) (confs : List PortConf) (q : PortNow) (conf : PortConf) → ArePortsFrom o p qs confs → IsOpenPort o (p + length confs) conf q
     → ArePortsFrom o p (qs ++ q ∷ []) (confs ++ conf ∷ [])
@@ -78,3 +79,28 @@ lawful-opening clocks = λ clock log is. let P : List LogEntry → Type 0 = λ l
 
 pub roles_opened : (rows : ℕ) (s : Scenario) → AreRolesOf (no_roles rows s.clocks) (opening s).roles
 roles_opened rows s = record { gener = refl; edges = refl; lawful = lawful-opening s.clocks }
+
+-- ---- the whole
+
+pub opened-is : (s : Scenario) (o : Options) (own : Announcement) (d : DataSets) (ports : List PortSet) → o ≡ s.options → own ≡ own_of o → d ≡ own_sets o own ports
+    → (n : Now) → n.moment ≡ 0 → n.sets ≡ d → ArePortsFrom o 1 n.ports.items s.ports → n.ports.len ≡ length s.ports → length s.ports ≤ 32 → IsOpened s n
+opened-is s o own d ports same own_is is n moment sets all count few =
+    let P : Options → Type 0 = λ x. ArePortsFrom x 1 n.ports.items s.ports in
+    let C : Options → Type 0 = λ x. IsClockOf x d in
+    let D : DataSets → Type 0 = λ x. IsClockOf s.options x in
+    let here = subst P same all in
+    let M : ℕ → Type 0 = λ m. AllStandFor s.options.delay_filter_length m n.ports.items (open_ports s.options 1 s.ports) in
+    record {
+      core = record {
+        moment = moment;
+        master = ap master_in sets ∙ (master_opened o own ports d own_is is ∙ ap (λ (x : Options). own_master (own_of x)) same);
+        ports = subst M (sym moment) (stand_opened s.options 1 n.ports.items s.ports here);
+      };
+      of = record {
+        clock = subst D (sym sets) (subst C same (clock_opened o own ports d own_is is));
+        ports = ports_opened s.options 1 n.ports.items s.ports here;
+        few = omega (arith, count, few);
+        early = omega (arith, moment);
+      };
+      count = count;
+    }

@@ -1,5 +1,6 @@
 -- A hub before and after an event.
-use Rattle.std.proofs.Common.{◌≡◌, ℕ, zero, suc, ◌+◌, ◌<◌, ◌≤◌, List, [], ◌∷◌, ◌++◌, length, reverse, fold, refl, sym, ap, subst, ◌∙◌, arith, Option, Some, None}
+use Rattle.std.proofs.Common.{◌≡◌, ℕ, zero, suc, ◌+◌, ◌<◌, ◌≤◌, List, [], ◌∷◌, ◌++◌, length, reverse, fold, get_or, ◌-◌, refl, sym, ap, subst, ◌∙◌, arith, Option, Some, None, length-append}
+use Rattle.std.proofs.lemmas.List.{length-reverse}
 use Rattle.discipline_seat.proofs.Reversing.{reverse_push}
 use Rattle.ptp_profile.specs.declared.seats.LogEntry.{LogEntry}
 use Rattle.bc_history.specs.declared.entry.Effects.{Effects}
@@ -14,11 +15,16 @@ use Rattle.bc_history.specs.Inputs.{event_of}
 use Rattle.bc_history.specs.Next.{IsDue}
 use Rattle.bc_history.specs.Opening.{opening}
 use Rattle.bc_history.specs.ScenarioRules.{IsScenario}
-use Rattle.bc_history.specs.State.{State}
+use Rattle.bc_history.specs.State.{HubPort, State}
+use Rattle.bc_history.specs.Inputs.{port_at}
+use Rattle.ptp_profile.specs.Timers.{due_of}
+use Rattle.hub_core.specs.declared.port.PortNow.{PortNow}
+use Rattle.hub_core.proofs.Standings.{AllStandFor-get}
 use Rattle.bc_history.specs.Step.{counted, state_of, step}
 use Rattle.bc_history.specs.World.{with_order}
 use Rattle.hub_core.specs.Hubs.{HubState, IsHub, entry_by, history_of, with_event}
-use Rattle.hub_core.specs.Machine.{HasServed, IsMachine}
+use Rattle.hub_core.specs.Machine.{HasServed, IsMachine, clocks_by}
+use Rattle.hub_core.specs.Reading.{input_seen}
 use Rattle.hub_core.specs.Rolling.{AreRolesOf, Rolling}
 use Rattle.hub_core.specs.Taking.{IsServed}
 use Rattle.hub_core.specs.declared.hub.Hub.TheInside.{Inside}
@@ -159,11 +165,58 @@ history-one i j input logs made is =
 
 pub hub-next : (i j : Inside) (input : Input) (logs : List (List LogEntry)) (made : Served) → IsHub i → length i.entries.items < 131071 → IsServed input → IsDue i.scenario.value (state_of i.scenario.value (history_of i)) input
     → HasTakenOne i j input logs made → IsHub j
-hub-next i j input logs made was few served due is = ?
+hub-next i j input logs made was few served due is =
+    let s = i.scenario.value in
+    let before = history_of i in
+    let reading = input_seen s.clocks (clocks_by s) logs input in
+    let history : history_of j ≡ is.served.entry ∷ before = history-one i j input logs made is in
+    let move : (P : Scenario → List Entry → Type 0) → P s (is.served.entry ∷ before) → P j.scenario.value (history_of j) =
+        λ P p. subst (λ (x : Scenario). P x (history_of j)) (sym is.scenario) (subst (λ (h : List Entry). P s h) (sym history) p) in
+    let long = length-reverse i.entries.items in
+    let more = ap (λ (es : List Entry). length es) is.entries ∙ length-append i.entries.items (kept_entry input made ∷ []) in
+    let follows = subst (λ (e : Entry). Follows s before e) (sym is.served.entry_is) (follows-after s before input reading due) in
+    let asked = ap (λ (e : Entry). (state_of s (e ∷ before)).queries) is.served.entry_is ∙ queries-after s before input reading served in
+    record {
+      rules = subst (λ (x : Scenario). IsScenario x) (sym is.scenario) was.rules;
+      history = move (λ x h. IsHistory x h) (record { few = omega (arith, few, long); continues = (follows, was.history.continues) });
+      machine = move (λ x h. IsMachine x j.machine (state_of x h)) is.served.machine;
+      gener = omega (arith, is.gener, was.gener, more);
+      asked = move (λ x h. j.asked ≡ (state_of x h).queries) (is.asked ∙ (was.asked ∙ sym asked));
+    }
 
 -- what contracts see of a hub
 abbrev pub seen_of : Inside → HubState
 seen_of i = record { scenario = i.scenario.value; entries = history_of i; logs = i.machine.roles.seats.logs }
 
+same_hub : (s s' : Scenario) (es es' : List Entry) (ls ls' : List (List LogEntry)) → s ≡ s' → es ≡ es' → ls ≡ ls'
+    → (let a : HubState = record { scenario = s; entries = es; logs = ls } in a) ≡ (let b : HubState = record { scenario = s'; entries = es'; logs = ls' } in b)
+same_hub s s' es es' ls ls' a b d = rw (a, b, d) refl
+
 pub event-taken : (i j : Inside) (input : Input) (logs : List (List LogEntry)) (made : Served) → HasTakenOne i j input logs made → seen_of j ≡ with_event (seen_of i) input
-event-taken i j input logs made is = ?
+event-taken i j input logs made is =
+    let s = i.scenario.value in
+    let before = history_of i in
+    let entry : is.served.entry ≡ entry_by (seen_of i) input = is.served.entry_is ∙ ap (λ (ls : List (List LogEntry)). entry_after s before input (input_seen s.clocks (clocks_by s) ls input)) is.logs_before in
+    let history = history-one i j input logs made is ∙ ap (λ (e : Entry). e ∷ before) entry in
+    let told = is.served.effects ∙ ap (λ (e : Entry). e.effects) entry in
+    let logs_are = is.logs_after ∙ (ap (λ (f : Effects). fold with_order logs f.orders) told ∙ ap (λ (ls : List (List LogEntry)). fold with_order ls (entry_by (seen_of i) input).effects.orders) is.logs_before) in
+    same_hub _ _ _ _ _ _ is.scenario history logs_are
+
+-- what was made is what the entry tells
+pub effects-told : (i j : Inside) (input : Input) (logs : List (List LogEntry)) (made : Served) → HasTakenOne i j input logs made → made.effects ≡ (entry_by (seen_of i) input).effects
+effects-told i j input logs made is =
+    let s = i.scenario.value in
+    is.served.effects ∙ ap (λ (e : Entry). e.effects) (is.served.entry_is ∙ ap (λ (ls : List (List LogEntry)). entry_after s (history_of i) input (input_seen s.clocks (clocks_by s) ls input)) is.logs_before)
+
+-- ---- what is due
+
+-- the timer that a port of the machine has is that of the history's port
+pub due-known : (s : Scenario) (m : Machine) (h : State) (p : ℕ) (q : PortNow) (g : HubPort) → IsMachine s m h → 1 ≤ p → p ≤ length m.state.ports.items → q ≡ get_or m.state.ports.items (p - 1) q
+    → port_at h.core.ports p ≡ Some g → due_of q.engine.timers ≡ due_of g.port.timers
+due-known s m h zero q g is some there at found = cc
+due-known s m h (suc k) q g is some there at found =
+    let index : suc k - 1 ≡ k = omega arith in
+    let stands = AllStandFor-get s.options.delay_filter_length m.state.moment m.state.ports.items h.core.ports k q is.core.ports (omega (arith, there)) (at ∙ ap (λ (j : ℕ). get_or m.state.ports.items j q) index) in
+    let both : Some stands.0 ≡ Some g = sym stands.1 ∙ found in
+    let same : stands.0 ≡ g = cc in
+    ap due_of (stands.2.engine.timers ∙ ap (λ (x : HubPort). x.port.timers) same)
