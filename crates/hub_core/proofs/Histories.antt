@@ -171,7 +171,7 @@ hub-next i j input logs made was few served due is =
     let reading = input_seen s.clocks (clocks_by s) logs input in
     let history : history_of j ≡ is.served.entry ∷ before = history-one i j input logs made is in
     let move : (P : Scenario → List Entry → Type 0) → P s (is.served.entry ∷ before) → P j.scenario.value (history_of j) =
-        λ P p. subst (λ (x : Scenario). P x (history_of j)) (sym is.scenario) (subst (λ (h : List Entry). P s h) (sym history) p) in
+    λ P p. subst (λ (x : Scenario). P x (history_of j)) (sym is.scenario) (subst (λ (h : List Entry). P s h) (sym history) p) in
     let long = length-reverse i.entries.items in
     let more = ap (λ (es : List Entry). length es) is.entries ∙ length-append i.entries.items (kept_entry input made ∷ []) in
     let follows = subst (λ (e : Entry). Follows s before e) (sym is.served.entry_is) (follows-after s before input reading due) in

@@ -87,3 +87,40 @@ impl Copies {
         }
     }
 }
+
+/// The list with no more places than elements, as far as the allocator has it so.
+fn trimmed<T: Drop>(items: Items<T>) -> Items<T>
+    ensures { result ≡ items }
+{
+    let mut elements = items.into_vec();
+    elements.shrink_to_fit();
+    Items::from_vec(elements)
+}
+
+/// What an event told, in as little memory as the allocator has for it.
+pub fn trimmed_effects(effects: Effects) -> Effects
+    ensures { result ≡ effects }
+{
+    let Effects {
+        fate,
+        states,
+        parent,
+        orders,
+        measure,
+        frames,
+        told,
+        asked,
+        answers,
+    } = effects;
+    Effects {
+        fate,
+        states: trimmed(states),
+        parent,
+        orders: trimmed(orders),
+        measure,
+        frames: trimmed(frames),
+        told,
+        asked,
+        answers,
+    }
+}

@@ -9,6 +9,7 @@ ghost use Rattle.discipline_seat.specs.Seats.{logs_from};
 ghost use Rattle.hub_core.specs.Hubs.{HubState, entry_by, opened, with_event, AreLawfulLogs};
 ghost use Rattle.hub_core.specs.Taking.{IsServed};
 
+use crate::copies::trimmed_effects;
 use crate::machine::Machine;
 use crate::rooms::{Copies, Rooms};
 use bc_history::{Effects, Entries, Entry, Input, Logs, Scenario};
@@ -105,7 +106,7 @@ impl Hub {
             input,
             moment: served.moment,
             seen: served.seen,
-            effects: served.effects,
+            effects: trimmed_effects(served.effects),
         });
         Ok(effects)
     }

@@ -1,10 +1,13 @@
 use Rattle.std.proofs.Common.{◌≡◌, ◌∙◌, ◌<◌, ◌≤◌, ◌*◌, ℕ, List, [], ◌∷◌, ◌++◌, length, refl, sym, ap, subst, arith}
+use Rattle.bc_history.specs.declared.entry.Effects.{Effects}
 use Rattle.bc_history.specs.declared.entry.Entry.{Entry}
+use Rattle.bc_history.specs.declared.entry.Input.{Input}
+use Rattle.hub_core.specs.declared.machine.Served.{Served}
 use Rattle.bc_history.specs.Next.{IsDue}
 use Rattle.bc_history.specs.Step.{state_of}
 use Rattle.hub_core.specs.Hubs.{HubState, entry_by, history_of, with_event}
 use Rattle.hub_core.specs.declared.hub.Hub.TheInside.{Inside}
-use Rattle.hub_core.proofs.Histories.{HasTakenOne, IsRoomier, effects-told, event-taken, gener-roomier, hub-next, hub-same, kept_entry, logs-roomier, machine-roomier, seen_of}
+use Rattle.hub_core.proofs.Histories.{HasTakenOne, IsRoomier, effects-told, event-taken, gener-roomier, hub-next, hub-same, logs-roomier, machine-roomier, seen_of}
 use Rattle.hub_core.proofs.hub.Hub.event.Goals as goal
 
 pub invariant_of-self-in_err-make_room : goal.invariant_of-self-in_err-make_room
@@ -12,7 +15,7 @@ invariant_of-self-in_err-make_room c =
     let i : Inside = c.self.inside in
     let more : IsRoomier i.machine.roles c.reserve.new.self = record { spare = c.reserve.new.self.seats.spare; same = c.reserve.ensures.same } in
     hub-same i _ c.self.invariant refl c.make_room.ensures.items refl
-        (machine-roomier i.scenario.value i.machine _ c.reserve.new.self c.self.invariant.machine more) (gener-roomier i.machine.roles c.reserve.new.self more)
+    (machine-roomier i.scenario.value i.machine _ c.reserve.new.self c.self.invariant.machine more) (gener-roomier i.machine.roles c.reserve.new.self more)
 
 pub serve-served-requires-clause-at : goal.serve-served-requires-clause-at
 serve-served-requires-clause-at c =
@@ -29,6 +32,9 @@ serve-served-requires-clause-at c =
       room = record { gener = omega (arith, gener, c.self.invariant.gener); spare = c.in_ok-reserve.ensures.ok };
     }
 
+abbrev entry_with : Input → Served → Effects → Entry
+entry_with input made effects = record { input = input; moment = made.moment; seen = made.seen; effects = effects }
+
 -- the hub after the event
 abbrev after : goal.After-push_reserved → Inside
 after c = record { alloc = c.self.inside.alloc; scenario = c.self.inside.scenario; machine = c.serve-served.new.self; entries = c.push_reserved.new.self; asked = c.self.inside.asked }
@@ -43,7 +49,9 @@ taken c =
       served = c.serve-served.ensures.served i.scenario.value (history_of i) c.self.invariant.rules
           (machine-roomier i.scenario.value i.machine _ c.reserve.new.self c.self.invariant.machine more)
           (subst (λ (h : HubState). IsDue h.scenario (state_of h.scenario h.entries) c.args.input) (sym c.self.view_is) c.requires.due);
-      entries = c.push_reserved.ensures.items ∙ ap (λ (es : List Entry). es ++ kept_entry c.args.input c.serve-served.result ∷ []) c.make_room.ensures.items;
+      entries =
+          c.push_reserved.ensures.items ∙ ap (λ (es : List Entry). es ++ entry_with c.args.input c.serve-served.result c.trimmed_effects.result ∷ []) c.make_room.ensures.items
+          ∙ ap (λ (f : Effects). i.entries.items ++ entry_with c.args.input c.serve-served.result f ∷ []) c.trimmed_effects.ensures;
       asked = refl;
       gener = omega (arith, c.serve-served.ensures.gener, gener);
       logs_before = logs-roomier i.machine.roles c.reserve.new.self more;
@@ -54,7 +62,7 @@ pub invariant_of-self-2 : goal.invariant_of-self-2
 invariant_of-self-2 c =
     let i : Inside = c.self.inside in
     hub-next i (after c) c.args.input c.reserve.new.self.seats.logs c.serve-served.result c.self.invariant (omega arith) c.requires.served
-        (subst (λ (h : HubState). IsDue h.scenario (state_of h.scenario h.entries) c.args.input) (sym c.self.view_is) c.requires.due) (taken c)
+    (subst (λ (h : HubState). IsDue h.scenario (state_of h.scenario h.entries) c.args.input) (sym c.self.view_is) c.requires.due) (taken c)
 
 pub returns-clause-taken : goal.returns-clause-taken
 returns-clause-taken c =

@@ -100,7 +100,7 @@ pub sends_of-sends-requires : goal.sends_of-sends-requires
 sends_of-sends-requires c =
     let w = c.requires.at in
     let is = made-at w.scenario w.entries c.args.self.now c.args.input.now c.clock_of-clock.result c.reading-seen.result _ c.serve-made.new.self c.args.rooms.frames.items c.serve-made.new.frames.items c.serve-made.result
-        w.machine w.served w.due c.clock_of-clock.ensures (to_z-of_z w64 c.value_of-value.result (search rules) ∙ c.value_of-value.ensures) c.requires.rooms.frames.empty c.serve-made.ensures.made in
+    w.machine w.served w.due c.clock_of-clock.ensures (to_z-of_z w64 c.value_of-value.result (search rules) ∙ c.value_of-value.ensures) c.requires.rooms.frames.empty c.serve-made.ensures.made in
     let few = frames_few w.scenario w.entries c.args.input.now c.reading-seen.result c.clock_of-clock.result c.serve-made.new.self c.serve-made.new.frames.items c.serve-made.result w.served w.due is in
     record { empty = c.requires.rooms.sends.empty; places = omega (arith, few, c.requires.rooms.sends.places) }
 
@@ -113,10 +113,10 @@ returns-clause-served c = λ s entries rules machine due.
     let e : Event = event input seen in
     let served = c.requires.at.served in
     let is = made-at s entries c.args.self.now input clock seen _ c.serve-made.new.self c.args.rooms.frames.items c.serve-made.new.frames.items c.serve-made.result
-        machine served due c.clock_of-clock.ensures (to_z-of_z w64 c.value_of-value.result (search rules) ∙ c.value_of-value.ensures) c.requires.rooms.frames.empty c.serve-made.ensures.made in
+    machine served due c.clock_of-clock.ensures (to_z-of_z w64 c.value_of-value.result (search rules) ∙ c.value_of-value.ensures) c.requires.rooms.frames.empty c.serve-made.ensures.made in
     let clocks : c.deref.result.now ≡ clocks_of (core_after s.options h e).ports =
-        c.deref.ensures.value ∙ machine.clocks ∙ clocks-ports s (entry_after s entries input seen ∷ entries) ∙ ap (λ (x : State). clocks_of x.core.ports) (state-next s entries input seen)
-        ∙ ap (λ (x : Core). clocks_of x.ports) (step-core s.options h e) in
+    c.deref.ensures.value ∙ machine.clocks ∙ clocks-ports s (entry_after s entries input seen ∷ entries) ∙ ap (λ (x : State). clocks_of x.core.ports) (state-next s entries input seen)
+    ∙ ap (λ (x : Core). clocks_of x.ports) (step-core s.options h e) in
     let went = c.advance-orders.ensures.advanced s.options.delay_filter_length (core_after s.options h e) h.roles is.core clocks machine.roles in
     let seen_is = seen-at s h c.args.self.now input clock seen machine c.clock_of-clock.ensures c.reading-seen.ensures.seen in
     record {
@@ -138,7 +138,7 @@ returns-clause-served c = λ s entries rules machine due.
       effects =
           c.effects_with.ensures ∙ ap (λ (fs : List Sent). told_by c.serve-made.result c.held-held.result c.advance-orders.result fs) c.sends_of-sends.ensures
           ∙ effects-at s entries input seen clock c.number_of.result c.held-held.result c.serve-made.new.self c.serve-made.new.frames.items c.serve-made.result c.advance-orders.new.roles c.advance-orders.result
-              served due is went c.held-held.ensures.clock (c.held-held.ensures.stamp h.roles machine.roles) c.number_of.ensures;
+          served due is went c.held-held.ensures.clock (c.held-held.ensures.stamp h.roles machine.roles) c.number_of.ensures;
     }
 
 pub returns-clause-few : goal.returns-clause-few
@@ -150,7 +150,7 @@ returns-clause-few c =
     let h = state_of s w.entries in
     let e : Event = event input seen in
     let is = made-at s w.entries c.args.self.now input c.clock_of-clock.result seen _ c.serve-made.new.self c.args.rooms.frames.items c.serve-made.new.frames.items c.serve-made.result
-        w.machine w.served w.due c.clock_of-clock.ensures (to_z-of_z w64 c.value_of-value.result (search rules) ∙ c.value_of-value.ensures) c.requires.rooms.frames.empty c.serve-made.ensures.made in
+    w.machine w.served w.due c.clock_of-clock.ensures (to_z-of_z w64 c.value_of-value.result (search rules) ∙ c.value_of-value.ensures) c.requires.rooms.frames.empty c.serve-made.ensures.made in
     let x = of_port-due s h input w.served w.due in
     let there = there-at h.core.ports input x in
     let numbers : Some x.number ≡ Some c.number_of.result = sym x.of ∙ c.number_of.ensures in

@@ -12,6 +12,6 @@ returns c =
     let options : c.s.inside.options ≡ s.options = ap (λ (x : Scenario). x.options) c.s.view_is in
     let confs : c.items.result.now ≡ s.ports = c.items.ensures ∙ ap (λ (x : Scenario). x.ports) c.s.view_is in
     opened-is s c.s.inside.options c.own_of-own.result c.new-2.result _ options c.own_of-own.ensures c.new-2.ensures _ refl refl
-        (subst (λ (ps : List PortConf). ArePortsFrom c.s.inside.options 1 c.in_ok-open_ports.field-0.items ps) confs c.in_ok-open_ports.ensures.ports)
-        (c.in_ok-open_ports.ensures.length ∙ ap (λ (ps : List PortConf). length ps) confs)
-        c.rules.ensures.port_count.1
+    (subst (λ (ps : List PortConf). ArePortsFrom c.s.inside.options 1 c.in_ok-open_ports.field-0.items ps) confs c.in_ok-open_ports.ensures.ports)
+    (c.in_ok-open_ports.ensures.length ∙ ap (λ (ps : List PortConf). length ps) confs)
+    c.rules.ensures.port_count.1
