@@ -9,3 +9,12 @@ pub mod Decisions
 pub mod Servings
 pub mod Dues
 pub mod Timed
+pub mod Copying
+pub mod Beginning
+pub mod Machines
+pub mod Entries
+pub mod Bounds
+pub mod Histories
+pub mod Giving
+pub mod Advancing
+pub mod Holding

@@ -3,3 +3,11 @@ pub mod Taking
 pub mod Owning
 pub mod Deciding
 pub mod Serving
+pub mod Rolling
+pub mod Reading
+pub mod Rooms
+pub mod Telling
+pub mod Machine
+pub mod Opened
+pub mod Hubs
+pub mod Holding

@@ -1,0 +1,54 @@
+-- A hub: its scenario, its history and the clocks' logs; and what an event adds to it.
+use Rattle.std.specs.Prelude.{◌≡◌, ℕ, ◌≤◌, List, [], ◌∷◌, length, map, fold, reverse, Option}
+use Rattle.model_clock.specs.declared.state.ClockState.{ClockState}
+use Rattle.ptp_profile.specs.declared.seats.LogEntry.{LogEntry}
+use Rattle.bc_history.specs.declared.entry.Entry.{Entry}
+use Rattle.bc_history.specs.declared.entry.Input.{Input}
+use Rattle.bc_history.specs.declared.entry.Seen.{Seen}
+use Rattle.bc_history.specs.declared.scenario.Scenario.{Scenario}
+use Rattle.bc_history.specs.Effects.{entry_after}
+use Rattle.bc_history.specs.History.{IsHistory}
+use Rattle.bc_history.specs.ScenarioRules.{IsScenario}
+use Rattle.bc_history.specs.Step.{state_of}
+use Rattle.bc_history.specs.World.{with_order}
+use Rattle.hub_core.specs.Machine.{IsMachine, clocks_by}
+use Rattle.hub_core.specs.Reading.{input_seen}
+use Rattle.hub_core.specs.Rolling.{AreLawful}
+use Rattle.hub_core.specs.declared.hub.Hub.TheInside.{Inside}
+
+-- entries and logs have the newest first; the logs are by rising clock
+pub record HubState : Type 0 where
+  pub scenario : Scenario
+  pub entries : List Entry
+  pub logs : List (List LogEntry)
+
+-- before the first entry
+abbrev pub opened : Scenario → HubState
+opened s = record { scenario = s; entries = []; logs = map (λ (clock : ClockState). []) s.clocks }
+
+-- the reading that comes with an input: that of its port's clock, after all entries of the clock's log
+abbrev pub reading_at : HubState → Input → Option Seen
+reading_at h input = input_seen h.scenario.clocks (clocks_by h.scenario) h.logs input
+
+-- the entry that an input makes
+abbrev pub entry_by : HubState → Input → Entry
+entry_by h input = entry_after h.scenario h.entries input (reading_at h input)
+
+-- the hub after an input: one entry more, and its orders in the logs
+abbrev pub with_event : HubState → Input → HubState
+with_event h input = record h { entries = entry_by h input ∷ h.entries; logs = fold with_order h.logs (entry_by h input).effects.orders }
+
+-- the orders of each clock's log are the history's, all and in order, and each change bears the stamp in force before it
+abbrev pub AreLawfulLogs : HubState → Type 0
+AreLawfulLogs h = AreLawful (state_of h.scenario h.entries).roles.orders h.logs
+
+abbrev pub history_of : Inside → List Entry
+history_of i = reverse i.entries.items
+
+-- what always holds of a hub
+pub record IsHub (i : Inside) : Type 0 where
+  pub rules : IsScenario i.scenario.value
+  pub history : IsHistory i.scenario.value (history_of i)
+  pub machine : IsMachine i.scenario.value i.machine (state_of i.scenario.value (history_of i))
+  pub gener : i.machine.roles.generation.gener ≤ length i.entries.items
+  pub asked : i.asked ≡ (state_of i.scenario.value (history_of i)).queries
