@@ -18,7 +18,7 @@ use Rattle.bc_history.specs.Inputs.{tick_of, port_at}
 use Rattle.bc_history.specs.Step.{state_of}
 use Rattle.bc_history.specs.Next.{port_input, record_or_timer, input_of}
 use Rattle.bc_history.proofs.Faces.{ports-length}
-use Rattle.hub_core.specs.Hubs.{HubState}
+use Rattle.hub_core.specs.Hubs.{HubState, opened}
 use Rattle.bc_top.specs.Built.{IsBuilt}
 use Rattle.bc_top.specs.Cursor.{IsNextOf, AreCursors}
 use Rattle.bc_top.specs.Going.{IsUnderWay, IsGoing, IsDueFirst, IsFirst, IsPassed, HasServed}
@@ -26,6 +26,7 @@ use Rattle.bc_top.specs.Loop.{IsFirstDue, IsNoneDue, ports_after, ticks_of}
 use Rattle.bc_top.specs.Sooner.{sooner_timer}
 use Rattle.bc_top.specs.Ticks.{IsFirstTick, IsNoneTick}
 use Rattle.bc_top.proofs.DueInputs.{FirstDue-from_ticks, NoneDue-from_ticks}
+use Rattle.bc_top.proofs.Serving.{UnderWay-opening}
 use Rattle.bc_top.proofs.AtPorts.{port_input-cursor, Cursors-timer, Cursors-record}
 
 -- ---- a record or a timer
@@ -257,6 +258,15 @@ pub cursors-more : (s : Scenario) (records : List Record) (old new : List ℕ) (
 cursors-more s records old new i x are count each here is = λ k c there.
     let one : IsNextOf s.records (length old + 1) 0 x = subst (λ (n : ℕ). IsNextOf s.records (n + 1) 0 x) (sym count) (subst (λ (rs : List Record). IsNextOf rs (i + 1) 0 x) are here) in
     each-push (λ j d. IsNextOf s.records (j + 1) 0 d) old x each one k c (subst (λ (xs : List ℕ). slice_get xs k ≡ Some c) is there)
+
+-- the loop begins
+pub going-opening : (s : Scenario) (hub : HubState) (cursors : List ℕ) → hub ≡ opened s → length cursors ≡ length s.ports → AreCursors s [] cursors → IsGoing s hub cursors
+going-opening s hub cursors is count next =
+    subst (λ (h : HubState). IsGoing s h cursors) (sym is) (record { under_way = UnderWay-opening s; count = count; next = next })
+
+-- the loop ends
+pub none_due : (s : Scenario) (hub : HubState) (due : Option ℕ) → due ≡ None → MatchOption due (IsNoneDue s (ports_after s hub.entries)) (IsDueFirst s hub) → IsNoneDue s (ports_after s hub.entries)
+none_due s hub due is found = subst (λ (d : Option ℕ). MatchOption d (IsNoneDue s (ports_after s hub.entries)) (IsDueFirst s hub)) is found
 
 -- ---- after a turn
 
