@@ -1,10 +1,10 @@
 //! The top call: from the words, the source and the sink of one run to its end.
 #![tactic(auto)]
 
+mod built;
 pub mod cursor;
 pub mod due;
 pub mod laws;
-mod built;
 mod next;
 mod outcome;
 mod parts;
@@ -18,5 +18,7 @@ mod write;
 pub use outcome::End;
 pub use top::offline;
 
+#[cfg(test)]
+mod replay_tests;
 #[cfg(test)]
 mod tests;

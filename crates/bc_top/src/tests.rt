@@ -4,7 +4,7 @@ use crate::{End, offline};
 use bc_history::{Happening, Record};
 use std::alloc::Global;
 use std::test::Fail;
-use text_io::{MemSink, MemSource, Reason, SureSink, SureSource};
+use text_io::{MemSink, MemSource, Reason, SureSource};
 
 const FIVE_SECONDS: &[u8] = b"[global]\nduration 5\n[port 1]\n[port 2]\n[records]\n";
 
@@ -13,16 +13,17 @@ const SIX_SECONDS: &[u8] = b"[global]\nduration 6\n[port 1]\n[port 2]\n[records]
 const OUT: &[u8] =
     b"bc-transcript 1\nevent 1 6000000000 port 1 timer 6000000000 announce_receipt seen 0 6000000000 0\n  state 1 LISTENING MASTER\nevent 2 6000000000 port 2 timer 6000000000 announce_receipt seen 0 6000000000 0\n  state 2 LISTENING MASTER\nclock 0 0 0\nend 2\n";
 
-const REFUSED: End = End::Refused {
+/// How a call ends at a scenario that is not built.
+pub const REFUSED: End = End::Refused {
     line: 0,
     reason: Reason::Unbuilt,
 };
 
-fn source(alloc: Global, text: &[u8]) -> Result<MemSource, Fail> {
+pub fn source(alloc: Global, text: &[u8]) -> Result<MemSource, Fail> {
     Ok(MemSource::new(Vec::from_slice(alloc, text)?))
 }
 
-fn words(alloc: Global, line: &str) -> Result<Vec<String>, Fail> {
+pub fn words(alloc: Global, line: &str) -> Result<Vec<String>, Fail> {
     let mut words = Vec::new(alloc);
     for word in line.split_ascii_whitespace() {
         words.push(String::from_str(alloc, word)?)?;
@@ -93,28 +94,14 @@ fn other_words_are_none(rt: HostRuntime) -> Result<(), Fail> {
 }
 
 #[test]
-fn other_texts_are_refused(rt: HostRuntime) -> Result<(), Fail> {
-    let replay = words(rt.alloc(), "replay")?;
-    for text in [
-        b"".as_slice(),
-        b"[global]\nduration 7\n[port 1]\n[records]\n".as_slice(),
-        b"[global]\nduration 6\n[records]\n".as_slice(),
-        b"[global]\nduration 6\n[port 1]\n[records]".as_slice(),
-        b"[global]\nduration 6\n[port 2]\n[records]\n".as_slice(),
-    ] {
-        let octets = Vec::from_slice(rt.alloc(), text)?;
-        let mut from = SureSource::new(octets).with_most(7);
-        let mut to = SureSink::new().with_most(7);
-        let end = offline(rt.alloc(), &replay, &mut from, &mut to);
-        assert_eq!(rt; end, REFUSED);
-    }
-    Ok(())
-}
-
-#[test]
 fn a_text_is_too_long(rt: HostRuntime) -> Result<(), Fail> {
     let replay = words(rt.alloc(), "replay")?;
-    for (length, due) in [(33_554_432usize, REFUSED), (33_554_433, End::TooLong)] {
+    // One line of a comment has no port: the text is faulty behind it.
+    let portless = End::Refused {
+        line: 2,
+        reason: Reason::Section,
+    };
+    for (length, due) in [(33_554_432usize, portless), (33_554_433, End::TooLong)] {
         let octets = vec![in rt.alloc(); b'#'; length]?;
         let mut from = SureSource::new(octets);
         let mut to = MemSink::new(rt.alloc());
@@ -133,6 +120,7 @@ fn each_end_has_its_status(rt: HostRuntime) {
         (REFUSED, 2),
         (End::ReadFault, 3),
         (End::WriteFault, 4),
+        (End::Events, 5),
         (End::NoMemory, 6),
         (End::TooLong, 8),
     ] {
