@@ -1,8 +1,8 @@
 -- The hub serves what is due first, as the World does.
-use Rattle.std.proofs.Common.{◌≡◌, ℕ, zero, suc, ◌+◌, ◌<◌, ◌≤◌, Bool, true, false, cond, refl, sym, ap, subst, ◌∙◌, arith, inl, inr, List, [], ◌∷◌, ◌++◌, length, map, fold, reverse, get_or, Option, Some, None, slice_get}
+use Rattle.std.proofs.Common.{◌≡◌, ℕ, zero, suc, ◌+◌, ◌<◌, ◌≤◌, cond, refl, sym, ap, subst, ◌∙◌, arith, inl, inr, List, [], ◌∷◌, length, map, fold, reverse, get_or, Option, Some, None, slice_get}
 use Rattle.std.specs.Prelude.{option_map, option_and_then}
 use Rattle.std.proofs.lemmas.Bool.{cases_lt}
-use Rattle.std.proofs.lemmas.Option.{slice_get-map, same_Some}
+use Rattle.std.proofs.lemmas.Option.{slice_get-map}
 use Rattle.ptp_base.specs.declared.port.PortConf.{PortConf}
 use Rattle.model_clock.specs.declared.state.ClockState.{ClockState}
 use Rattle.ptp_profile.specs.declared.roles.RoleOrder.{RoleOrder}
@@ -18,8 +18,8 @@ use Rattle.bc_history.specs.State.{HubPort}
 use Rattle.bc_history.specs.Inputs.{tick_of, port_of, port_at, changed_at, is_read}
 use Rattle.bc_history.specs.Step.{state_of}
 use Rattle.bc_history.specs.Effects.{entry_after}
-use Rattle.bc_history.specs.Next.{port_input, IsDue}
-use Rattle.bc_history.specs.World.{World, log_of, log_from, opening_of, port_reading, seen_of, with_order, IsWorld, IsEnd, Events}
+use Rattle.bc_history.specs.Next.{IsDue}
+use Rattle.bc_history.specs.World.{log_of, log_from, opening_of, port_reading, seen_of, with_order, IsWorld, IsEnd, Events}
 use Rattle.bc_history.proofs.Faces.{port-state_of}
 use Rattle.hub_core.specs.declared.hub.HubError.{HubError}
 use Rattle.hub_core.specs.declared.hub.HubError.TheVariants.{NoMemory as Hub_no_memory, Events as Hub_events}
@@ -27,9 +27,9 @@ use Rattle.hub_core.specs.Machine.{clocks_by}
 use Rattle.hub_core.specs.Reading.{seen_in, input_seen}
 use Rattle.hub_core.specs.Hubs.{HubState, opened, reading_at, with_event}
 use Rattle.bc_top.specs.Built.{IsBuilt}
-use Rattle.bc_top.specs.Going.{IsUnderWay, HasServed, IsDueFirst}
+use Rattle.bc_top.specs.Going.{IsUnderWay, HasServed}
 use Rattle.bc_top.specs.Replaying.{IsReplayError, by_hub}
-use Rattle.bc_top.specs.Loop.{IsDueAt, IsFirstDue, IsNoneDue, IsOnTheWay, entry_by, empty_logs, loop_run, ports_after, waiting_world}
+use Rattle.bc_top.specs.Loop.{IsFirstDue, IsNoneDue, entry_by, loop_run, ports_after, waiting_world}
 use Rattle.bc_top.proofs.AtPorts.{port-due}
 use Rattle.bc_top.proofs.OnTheWay.{OnTheWay-opening, OnTheWay-event, OnTheWay-done, OnTheWay-full}
 use Rattle.bc_top.proofs.Untimed.{unmeasured-opening, unmeasured-due, unmeasured-after, due-is_due}

@@ -1,5 +1,5 @@
 -- One turn of the loop over the hub.
-use Rattle.std.proofs.Common.{◌≡◌, ℕ, zero, suc, ◌+◌, ◌-◌, ◌<◌, ◌≤◌, Bool, true, false, cond, ltb, refl, sym, ap, subst, ◌∙◌, arith, List, [], ◌∷◌, ◌++◌, length, map, take, set, get_or, Option, Some, None, slice_get}
+use Rattle.std.proofs.Common.{◌≡◌, ℕ, zero, suc, ◌+◌, ◌<◌, ◌≤◌, Bool, true, false, cond, ltb, refl, sym, ap, subst, ◌∙◌, arith, List, [], ◌∷◌, ◌++◌, length, take, set, get_or, Option, Some, None, slice_get}
 use Rattle.std.specs.Prelude.{option_map, MatchOption}
 use Rattle.std.proofs.Math.ListN.{length-set}
 use Rattle.std.proofs.lemmas.Option.{same_Some, slice_get_within, slice_get-get_or, get_or_from_slice_get}
@@ -9,8 +9,6 @@ use Rattle.ptp_profile.specs.Timers.{due_of}
 use Rattle.bc_history.specs.declared.entry.Entry.{Entry}
 use Rattle.bc_history.specs.declared.entry.Input.{Input}
 use Rattle.bc_history.specs.declared.entry.Input.TheVariants.{Timed}
-use Rattle.bc_history.specs.declared.scenario.Happening.{Happening}
-use Rattle.bc_history.specs.declared.scenario.Happening.TheVariants.{Frame as Frame_record, Down as Down_record, Up as Up_record}
 use Rattle.bc_history.specs.declared.scenario.Record.{Record}
 use Rattle.bc_history.specs.declared.scenario.Scenario.{Scenario}
 use Rattle.bc_history.specs.State.{HubPort}
@@ -19,7 +17,6 @@ use Rattle.bc_history.specs.Step.{state_of}
 use Rattle.bc_history.specs.Next.{port_input, record_or_timer, input_of}
 use Rattle.bc_history.proofs.Faces.{ports-length}
 use Rattle.hub_core.specs.Hubs.{HubState, opened}
-use Rattle.bc_top.specs.Built.{IsBuilt}
 use Rattle.bc_top.specs.Cursor.{IsNextOf, AreCursors}
 use Rattle.bc_top.specs.Going.{IsUnderWay, IsGoing, IsDueFirst, IsFirst, IsPassed, HasServed}
 use Rattle.bc_top.specs.Loop.{IsFirstDue, IsNoneDue, ports_after, ticks_of}

@@ -1,5 +1,5 @@
-use Rattle.std.proofs.Common.{rules, ◌≡◌, ◌<◌, ℕ, None, Some, sym, ◌∙◌, get_or, length, arith}
-use Rattle.bc_top.proofs.Turning.{AtTurn, due_at_cursor, due_few, within_ports, turn-timer, turn-passed_timer, turn-within, turn-record, turn-passed_record}
+use Rattle.std.proofs.Common.{rules, ◌<◌, get_or, length, arith}
+use Rattle.bc_top.proofs.Turning.{due_at_cursor, due_few, within_ports, turn-timer, turn-passed_timer, turn-within, turn-record, turn-passed_record}
 use Rattle.bc_top.proofs.next.next_input.Goals as goal
 
 pub overflow_cast-port : goal.overflow_cast-port

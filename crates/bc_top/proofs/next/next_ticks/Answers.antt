@@ -4,7 +4,7 @@ use Rattle.std.proofs.lemmas.Option.{slice_get-get_or}
 use Rattle.bc_history.specs.declared.scenario.Record.{Record}
 use Rattle.bc_history.specs.Inputs.{tick_of}
 use Rattle.bc_history.specs.Next.{record_or_timer}
-use Rattle.bc_top.proofs.Turning.{within_ports, ticks-more, ticks-all}
+use Rattle.bc_top.proofs.Turning.{ticks-more, ticks-all}
 use Rattle.bc_top.proofs.next.next_ticks.Goals as goal
 
 pub loop-i-preserved : goal.loop-i-preserved
