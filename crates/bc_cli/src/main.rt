@@ -23,6 +23,7 @@ fn report(rt: &HostRuntime, end: &End) -> io::Result<()> {
         End::Refused { line, reason } => eprintln!(rt; "line {line}: {reason}"),
         End::ReadFault => eprintln!(rt; "read failed"),
         End::WriteFault => eprintln!(rt; "write failed"),
+        End::Events => eprintln!(rt; "too many events"),
         End::NoMemory => eprintln!(rt; "no memory"),
         End::TooLong => eprintln!(rt; "input too long"),
     }
