@@ -3,7 +3,8 @@ ghost use Rattle.std.specs.Prelude.{◌≡◌, ℕ, ◌+◌, ◌-◌, ◌^◌, �
 use crate::outside::{Failed, Sink, Source};
 use std::io::{Read, Write};
 
-/// Standard input, or another reader, with a count of its errors. It tells no content.
+/// Standard input, or another reader, with a count of its errors. It tells what its reader tells:
+/// standard input tells no content.
 #[derive(Drop)]
 pub struct InAdapter<R: Read + Drop> {
     reader: R,
@@ -13,14 +14,15 @@ pub struct InAdapter<R: Read + Drop> {
 impl<R: Read + Drop> InAdapter<R> {
     /// No read has failed yet.
     pub fn new(reader: R) -> InAdapter<R>
-        ensures { ⟦<InAdapter<R> as Source>⟧.faults result ≡ 0 }
+        ensures left { ⟦<InAdapter<R> as Source>⟧.left result ≡ R.remaining reader }
+        ensures faults { ⟦<InAdapter<R> as Source>⟧.faults result ≡ 0 }
     {
         InAdapter { reader, count: 0 }
     }
 }
 
 impl<R: Read + Drop> Source for InAdapter<R> {
-    ghost left = { λ _. None };
+    ghost left = { λ s. R.remaining s.reader };
 
     ghost faults = { λ s. s.count };
 
@@ -35,7 +37,8 @@ impl<R: Read + Drop> Source for InAdapter<R> {
     }
 }
 
-/// Standard output, or another writer, with a count of its errors. It tells no content.
+/// Standard output, or another writer, with a count of its errors. It tells what its writer tells:
+/// standard output tells no content.
 #[derive(Drop)]
 pub struct OutAdapter<W: Write + Drop> {
     writer: W,
@@ -45,14 +48,15 @@ pub struct OutAdapter<W: Write + Drop> {
 impl<W: Write + Drop> OutAdapter<W> {
     /// No write has failed yet.
     pub fn new(writer: W) -> OutAdapter<W>
-        ensures { ⟦<OutAdapter<W> as Sink>⟧.faults result ≡ 0 }
+        ensures written { ⟦<OutAdapter<W> as Sink>⟧.written result ≡ W.contents writer }
+        ensures faults { ⟦<OutAdapter<W> as Sink>⟧.faults result ≡ 0 }
     {
         OutAdapter { writer, count: 0 }
     }
 }
 
 impl<W: Write + Drop> Sink for OutAdapter<W> {
-    ghost written = { λ _. None };
+    ghost written = { λ s. W.contents s.writer };
 
     ghost faults = { λ s. s.count };
 
