@@ -1,8 +1,6 @@
-//! One event at a time: what an input does to all ports and to the data sets, by the port's own
-//! event, and then by the decision for all ports (IEEE 1588-2019, 9.2 and 9.3). What it tells: the
-//! fate of a frame, how the ports moved, the new parent, the frames that are sent, the measure.
-//!
-//! The hub itself, with its history, the roles and the clocks' logs, comes over this.
+//! The hub of a boundary clock, one event at a time: the input of a port is its own event, and then
+//! a decision for all ports (IEEE 1588-2019, 9.2 and 9.3); from the ports' states follows what drives
+//! each clock. `Hub` keeps the history, whose entries tell all of that, and the clocks' logs.
 #![tactic(auto)]
 
 mod copies;
