@@ -22,3 +22,5 @@ pub use top::offline;
 mod replay_tests;
 #[cfg(test)]
 mod tests;
+#[cfg(test)]
+mod worked_tests;
