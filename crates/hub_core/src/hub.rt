@@ -142,6 +142,8 @@ impl Hub {
     pub fn part(self) -> (Entries, Logs)
         ensures entries { result.0 ≡ reverse self.entries }
         ensures logs { result.1 ≡ logs_from 0 self.scenario.clocks self.logs }
+        ensures history { IsHistory self.scenario self.entries }
+        ensures lawful { AreLawfulLogs self }
     {
         let Hub {
             machine,

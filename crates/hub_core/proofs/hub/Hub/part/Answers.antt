@@ -1,0 +1,6 @@
+use Rattle.std.proofs.Common.{subst}
+use Rattle.hub_core.specs.Hubs.{AreLawfulLogs, HubState}
+use Rattle.hub_core.proofs.hub.Hub.part.Goals as goal
+
+pub returns-clause-lawful : goal.returns-clause-lawful
+returns-clause-lawful c = subst (λ (h : HubState). AreLawfulLogs h) c.self.view_is c.self.invariant.machine.roles.lawful
