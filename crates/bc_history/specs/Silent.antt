@@ -1,6 +1,5 @@
--- Scenarios whose ports hear nothing, and the texts that stand for them: the form of text that is built so far.
-use Rattle.std.specs.Prelude.{◌≡◌, ℕ, zero, suc, pos, ◌*◌, ◌<◌, ◌≤◌, List, [], ◌∷◌, ◌++◌, codes, replicate, false}
-use Rattle.std.specs.Fmt.{decimal}
+-- What a scenario is where its text says nothing of it, and scenarios whose ports hear nothing.
+use Rattle.std.specs.Prelude.{ℕ, pos, ◌*◌, [], ◌∷◌, replicate, false}
 use Rattle.ptp_base.specs.declared.port.PortConf.{PortConf}
 use Rattle.model_clock.specs.declared.state.ClockState.{ClockState}
 use Rattle.bc_history.specs.declared.scenario.Options.{Options}
@@ -52,26 +51,3 @@ silent seconds count = record {
   queries = [];
   turns = [];
 }
-
--- the headers of the first n ports
-unfoldable pub port_headers : ℕ → List ℕ
-port_headers zero = []
-port_headers (suc n) = port_headers n ++ codes "[port " ++ decimal (suc n) ++ codes "]\n"
-
--- the text of so many ports and no records, for so many seconds
-abbrev pub silent_text : ℕ → ℕ → List ℕ
-silent_text seconds count = codes "[global]\nduration " ++ decimal seconds ++ codes "\n" ++ port_headers count ++ codes "[records]\n"
-
--- the text stands for the scenario: 1 to 4 ports, for 0 to 6 seconds
-pub record StandsFor (text : List ℕ) (s : Scenario) : Type 0 where
-  pub seconds : ℕ
-  pub count : ℕ
-  pub few_seconds : seconds ≤ 6
-  pub some_ports : 0 < count
-  pub few_ports : count ≤ 4
-  pub spelled : text ≡ silent_text seconds count
-  pub scenario : s ≡ silent seconds count
-
--- the text stands for no scenario
-abbrev pub StandsForNone : List ℕ → Type 0
-StandsForNone text = ¬ ((s : Scenario) × StandsFor text s)
