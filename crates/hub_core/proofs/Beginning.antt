@@ -1,5 +1,5 @@
 -- What a hub keeps before the first entry.
-use Rattle.std.proofs.Common.{◌≡◌, ℕ, pos, zero, suc, ◌+◌, ◌≤◌, List, [], ◌∷◌, ◌++◌, length, map, refl, sym, ap, subst, ◌∙◌, arith, Some, None}
+use Rattle.std.proofs.Common.{◌≡◌, ℕ, pos, zero, suc, ◌+◌, ◌≤◌, List, [], ◌∷◌, ◌++◌, length, map, refl, sym, ap, subst, ◌∙◌, arith, Some}
 use Rattle.std.specs.Prelude.{slice_get}
 use Rattle.ptp_base.specs.declared.announcement.Announcement.{Announcement}
 use Rattle.ptp_base.specs.declared.port.PortConf.{PortConf}
@@ -14,7 +14,7 @@ use Rattle.bc_history.specs.declared.scenario.Options.{Options}
 use Rattle.bc_history.specs.declared.scenario.Scenario.{Scenario}
 use Rattle.bc_history.specs.Opening.{open_ports, opening, own_of}
 use Rattle.hub_core.specs.Opened.{ArePortsFrom, IsOpenPort, IsOpened}
-use Rattle.hub_core.specs.Rolling.{AreLawful, AreRolesOf, Rolling, no_roles}
+use Rattle.hub_core.specs.Rolling.{AreLawful, AreRolesOf, no_roles}
 use Rattle.hub_core.specs.Standing.{AllStandFor, ArePortsOf, IsClockOf}
 use Rattle.hub_core.specs.declared.port.PortNow.{PortNow}
 use Rattle.hub_core.specs.declared.now.Now.{Now}

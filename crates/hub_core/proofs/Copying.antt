@@ -1,6 +1,6 @@
 -- Lists that are made again, element by element.
-use Rattle.std.proofs.Common.{◌≡◌, ℕ, zero, suc, ◌+◌, ◌<◌, ◌≤◌, List, [], ◌∷◌, ◌++◌, length, take, drop, get_or, refl, sym, ap, ◌∙◌, arith}
-use Rattle.std.proofs.lemmas.List.{take_more, append-nil}
+use Rattle.std.proofs.Common.{◌≡◌, ℕ, zero, suc, ◌+◌, ◌<◌, ◌≤◌, List, [], ◌∷◌, ◌++◌, length, take, drop, get_or, refl, arith}
+use Rattle.std.proofs.lemmas.List.{take_more}
 
 -- one more element of a list
 pub grown : {X : Type 0} (xs : List X) (i : ℕ) (d x : X) (before after : List X) → i < length xs → before ≡ take i xs → x ≡ get_or xs i d → after ≡ before ++ x ∷ [] → after ≡ take (i + 1) xs

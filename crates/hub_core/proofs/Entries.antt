@@ -1,6 +1,6 @@
 -- What the machine made of an input that was due is the history's next entry.
-use Rattle.std.proofs.Common.{◌≡◌, ℕ, suc, ◌+◌, ◌<◌, ◌≤◌, Bool, true, false, cond, List, [], ◌∷◌, ◌++◌, length, map, refl, sym, ap, subst, ◌∙◌, arith, Option, Some, None}
-use Rattle.std.specs.Prelude.{ℤ, slice_get, option_map, option_and_then, IsSomeAnd, All}
+use Rattle.std.proofs.Common.{◌≡◌, ℕ, suc, cond, List, [], ◌∷◌, length, map, refl, sym, ap, subst, ◌∙◌, arith, Option, Some, None}
+use Rattle.std.specs.Prelude.{ℤ, slice_get, option_and_then, IsSomeAnd}
 use Rattle.ptp_base.specs.declared.identity.PortId.{PortId}
 use Rattle.ptp_base.specs.declared.port.PortConf.{PortConf}
 use Rattle.model_clock.specs.declared.state.ClockState.{ClockState}
@@ -8,8 +8,6 @@ use Rattle.ptp_profile.specs.declared.port.Fate.{Fate}
 use Rattle.ptp_profile.specs.declared.roles.RoleOrder.{RoleOrder}
 use Rattle.ptp_profile.specs.declared.seats.Held.{Held}
 use Rattle.ptp_profile.specs.declared.timing.Measure.{Measure}
-use Rattle.ptp_profile.specs.DataSets.{Master}
-use Rattle.ptp_profile.specs.Roles.{stamp_of}
 use Rattle.bc_history.specs.declared.entry.Effects.{Effects}
 use Rattle.bc_history.specs.declared.entry.Entry.{Entry}
 use Rattle.bc_history.specs.declared.entry.Input.{Input}
@@ -21,7 +19,7 @@ use Rattle.bc_history.specs.declared.entry.Told.{Told}
 use Rattle.bc_history.specs.declared.scenario.Options.{Options}
 use Rattle.bc_history.specs.declared.scenario.Scenario.{Scenario}
 use Rattle.bc_history.specs.Effects.{effects_of, entry_after, event, told_by as told_at}
-use Rattle.bc_history.specs.Generations.{clocks_of, generation, states_of}
+use Rattle.bc_history.specs.Generations.{clocks_of, generation}
 use Rattle.bc_history.specs.Inputs.{is_read, port_at, port_of, tick_of, value_of}
 use Rattle.bc_history.specs.Next.{IsDue}
 use Rattle.bc_history.specs.ScenarioRules.{IsScenario}
@@ -29,7 +27,7 @@ use Rattle.bc_history.specs.State.{Core, Event, Follower, HubPort, Roles, State}
 use Rattle.bc_history.specs.Step.{core_after, state_of, step}
 use Rattle.bc_history.proofs.Faces.{ports-length, port-state_of}
 use Rattle.hub_core.specs.Deciding.{HasPlaces, HasRoom}
-use Rattle.hub_core.specs.Machine.{IsMachine, IsStampOf, HasServed, clocks_by}
+use Rattle.hub_core.specs.Machine.{IsMachine, IsStampOf, clocks_by}
 use Rattle.hub_core.specs.Owning.{IsSetAt, IsThere}
 use Rattle.hub_core.specs.Reading.{input_seen, seen_in}
 use Rattle.hub_core.specs.Rolling.{AreRolesOf, HaveAdvanced, IsSameTable, Rolling}
@@ -41,7 +39,7 @@ use Rattle.hub_core.specs.declared.machine.Machine.{Machine}
 use Rattle.hub_core.specs.declared.now.Now.{Now}
 use Rattle.hub_core.specs.declared.serving.Made.{Made}
 use Rattle.hub_core.proofs.Dues.{IsSetAt-due, IsThere-due}
-use Rattle.hub_core.proofs.Machines.{IsOfPort, of_port-due, there-at, placed-due, clock-there, seen-known, measure-known, sends-known, state-next}
+use Rattle.hub_core.proofs.Machines.{of_port-due, there-at, placed-due, clock-there, seen-known, measure-known, sends-known, state-next}
 
 -- ---- ports of the machine
 

@@ -1,5 +1,5 @@
 -- A hub before and after an event.
-use Rattle.std.proofs.Common.{◌≡◌, ℕ, zero, suc, ◌+◌, ◌<◌, ◌≤◌, List, [], ◌∷◌, ◌++◌, length, reverse, fold, get_or, ◌-◌, refl, sym, ap, subst, ◌∙◌, arith, Option, Some, None, length-append}
+use Rattle.std.proofs.Common.{◌≡◌, ℕ, zero, suc, ◌+◌, ◌<◌, ◌≤◌, List, [], ◌∷◌, ◌++◌, length, reverse, fold, get_or, ◌-◌, refl, sym, ap, subst, ◌∙◌, arith, Option, Some, length-append}
 use Rattle.std.proofs.lemmas.List.{length-reverse}
 use Rattle.discipline_seat.proofs.Reversing.{reverse_push}
 use Rattle.ptp_profile.specs.declared.seats.LogEntry.{LogEntry}
@@ -9,9 +9,8 @@ use Rattle.bc_history.specs.declared.entry.Input.{Input}
 use Rattle.bc_history.specs.declared.entry.Input.TheVariants.{Frame, Timed, Down, Up, Report, Turn, Sampled, Query}
 use Rattle.bc_history.specs.declared.entry.Seen.{Seen}
 use Rattle.bc_history.specs.declared.scenario.Scenario.{Scenario}
-use Rattle.bc_history.specs.Effects.{entry_after, event}
-use Rattle.bc_history.specs.History.{Continues, Follows, IsHistory}
-use Rattle.bc_history.specs.Inputs.{event_of}
+use Rattle.bc_history.specs.Effects.{entry_after}
+use Rattle.bc_history.specs.History.{Follows, IsHistory}
 use Rattle.bc_history.specs.Next.{IsDue}
 use Rattle.bc_history.specs.Opening.{opening}
 use Rattle.bc_history.specs.ScenarioRules.{IsScenario}
@@ -25,7 +24,7 @@ use Rattle.bc_history.specs.World.{with_order}
 use Rattle.hub_core.specs.Hubs.{HubState, IsHub, entry_by, history_of, with_event}
 use Rattle.hub_core.specs.Machine.{HasServed, IsMachine, clocks_by}
 use Rattle.hub_core.specs.Reading.{input_seen}
-use Rattle.hub_core.specs.Rolling.{AreRolesOf, Rolling}
+use Rattle.hub_core.specs.Rolling.{Rolling}
 use Rattle.hub_core.specs.Taking.{IsServed}
 use Rattle.hub_core.specs.declared.hub.Hub.TheInside.{Inside}
 use Rattle.hub_core.specs.declared.machine.Machine.{Machine}

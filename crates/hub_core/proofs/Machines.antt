@@ -1,9 +1,8 @@
 -- What a machine makes of an input is the entry that the history has next.
-use Rattle.std.proofs.Common.{◌≡◌, ℕ, zero, suc, ◌+◌, ◌<◌, ◌≤◌, Bool, true, false, cond, List, [], ◌∷◌, ◌++◌, length, map, refl, sym, ap, subst, ◌∙◌, arith, Option, Some, None}
+use Rattle.std.proofs.Common.{◌≡◌, ℕ, zero, suc, ◌+◌, ◌<◌, ◌≤◌, Bool, true, false, cond, List, [], ◌∷◌, length, map, refl, sym, ap, subst, ◌∙◌, arith, Option, Some, None}
 use Rattle.std.specs.Prelude.{ℤ, Result, Ok, Err, slice_get, slice_index_or, option_map, option_and_then, option_to_list, flat_map, IsSomeAnd, All}
 use Rattle.std.proofs.lemmas.List.{append-nil, length-map}
 use Rattle.std.proofs.lemmas.List.Elements.{All-cons, All-nil}
-use Rattle.ptp_base.specs.declared.identity.PortId.{PortId}
 use Rattle.ptp_base.specs.declared.port.PortConf.{PortConf}
 use Rattle.model_clock.specs.declared.state.ClockState.{ClockState}
 use Rattle.ptp_profile.specs.declared.message.Message.{Message}
@@ -19,31 +18,26 @@ use Rattle.ptp_profile.specs.declared.seats.LogEntry.{LogEntry}
 use Rattle.ptp_profile.specs.declared.timing.Measure.{Measure}
 use Rattle.ptp_profile.specs.DataSets.{Master}
 use Rattle.ptp_profile.specs.Frames.{timer_messages}
-use Rattle.ptp_profile.specs.Logs.{IsLawful, stamp_after}
 use Rattle.ptp_profile.specs.Port.{Port, is_set_for}
 use Rattle.ptp_profile.specs.Roles.{Stamp, stamp_of}
-use Rattle.ptp_profile.specs.Wire.{written, length_of, kind_number}
+use Rattle.ptp_profile.specs.Wire.{length_of, kind_number}
 use Rattle.ptp_profile.proofs.LogLemmas.{stamp_after-lawful}
 use Rattle.ptp_wire.proofs.Lengths.{length_written}
 use Rattle.discipline_seat.specs.Seats.{stamp_in}
-use Rattle.bc_history.specs.declared.entry.Effects.{Effects}
 use Rattle.bc_history.specs.declared.entry.Entry.{Entry}
 use Rattle.bc_history.specs.declared.entry.Input.{Input}
 use Rattle.bc_history.specs.declared.entry.Input.TheVariants.{Frame, Timed, Down, Up, Report, Turn, Sampled, Query}
-use Rattle.bc_history.specs.declared.entry.Moved.{Moved}
 use Rattle.bc_history.specs.declared.entry.Seen.{Seen}
 use Rattle.bc_history.specs.declared.entry.Sent.{Sent}
 use Rattle.bc_history.specs.declared.scenario.Options.{Options}
 use Rattle.bc_history.specs.declared.scenario.Scenario.{Scenario}
-use Rattle.bc_history.specs.Effects.{effects_of, entry_after, event, frames_at, messages_by, response, sent, is_answered}
-use Rattle.bc_history.specs.Generations.{clocks_of}
-use Rattle.bc_history.specs.Inputs.{event_of, is_read, port_at, port_of, tick_of, value_of}
+use Rattle.bc_history.specs.Effects.{entry_after, event, frames_at, messages_by, response, sent, is_answered}
+use Rattle.bc_history.specs.Inputs.{is_read, port_at, port_of, tick_of, value_of}
 use Rattle.bc_history.specs.Next.{IsDue}
 use Rattle.bc_history.specs.Own.{fate_at, read_frame}
-use Rattle.bc_history.specs.Ports.{IsPortOf}
 use Rattle.bc_history.specs.State.{Core, Event, HubPort, Roles, State}
-use Rattle.bc_history.specs.Step.{core_after, measure_at, state_of, step}
-use Rattle.bc_history.proofs.Faces.{port-state_of, ports-length}
+use Rattle.bc_history.specs.Step.{core_after, state_of, step}
+use Rattle.bc_history.proofs.Faces.{port-state_of}
 use Rattle.hub_core.specs.Machine.{IsStampOf, clocks_by}
 use Rattle.hub_core.specs.Reading.{input_seen, seen_in}
 use Rattle.hub_core.specs.Rolling.{AreRolesOf, Rolling}

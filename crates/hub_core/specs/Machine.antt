@@ -1,5 +1,5 @@
 -- All that a hub keeps of its history but the entries.
-use Rattle.std.specs.Prelude.{◌≡◌, ℕ, ◌*◌, ◌<◌, ◌≤◌, List, [], ◌∷◌, length, map, All}
+use Rattle.std.specs.Prelude.{◌≡◌, ℕ, ◌*◌, ◌<◌, ◌≤◌, List, ◌∷◌, length, map, All}
 use Rattle.ptp_base.specs.declared.port.PortConf.{PortConf}
 use Rattle.ptp_profile.specs.declared.roles.RoleOrder.{RoleOrder}
 use Rattle.ptp_profile.specs.declared.seats.Held.{Held}
@@ -11,7 +11,7 @@ use Rattle.bc_history.specs.declared.scenario.Scenario.{Scenario}
 use Rattle.bc_history.specs.Effects.{entry_after}
 use Rattle.bc_history.specs.Next.{IsDue}
 use Rattle.bc_history.specs.ScenarioRules.{IsScenario}
-use Rattle.bc_history.specs.State.{Core, State}
+use Rattle.bc_history.specs.State.{State}
 use Rattle.bc_history.specs.Step.{state_of}
 use Rattle.hub_core.specs.Deciding.{HasRoom, HasPlaces}
 use Rattle.hub_core.specs.Reading.{input_seen}

@@ -1,5 +1,5 @@
 -- What a port's clock reads at an input.
-use Rattle.std.specs.Prelude.{ℕ, List, [], length, if◌then◌else◌, Option, Some, None, option_map, option_and_then, slice_index_or}
+use Rattle.std.specs.Prelude.{ℕ, List, [], length, if◌then◌else◌, Option, None, option_map, option_and_then, slice_index_or}
 use Rattle.model_clock.specs.declared.state.ClockState.{ClockState}
 use Rattle.model_clock.specs.Clock.{reading}
 use Rattle.ptp_profile.specs.declared.seats.LogEntry.{LogEntry}

@@ -1,5 +1,5 @@
 -- Places for what an event tells, and for its copy.
-use Rattle.std.specs.Prelude.{◌≡◌, ℕ, ◌*◌, ◌≤◌, List, [], length, All}
+use Rattle.std.specs.Prelude.{◌≡◌, ℕ, ◌*◌, ◌≤◌, [], length, All}
 use Rattle.ptp_base.specs.Room.{Reserved}
 use Rattle.bc_history.specs.declared.entry.Effects.{Effects}
 use Rattle.bc_history.specs.declared.entry.Sent.{Sent}

@@ -1,4 +1,4 @@
-use Rattle.std.proofs.Common.{◌≡◌, ◌+◌, ◌<◌, ℕ, pos, List, ◌++◌, ◌∷◌, [], length, take, get_or, ap, subst, sym, arith}
+use Rattle.std.proofs.Common.{◌≡◌, ◌+◌, ◌<◌, ℕ, pos, List, ◌++◌, ◌∷◌, [], length, take, get_or, subst, sym, arith}
 use Rattle.std.proofs.lemmas.List.{take_more, length-take-le}
 use Rattle.ptp_base.specs.declared.port.PortConf.{PortConf}
 use Rattle.hub_core.specs.Opened.{ArePortsFrom, IsOpenPort}

@@ -1,8 +1,6 @@
-use Rattle.std.proofs.Common.{rules, ◌≡◌, ◌∙◌, ◌≤◌, ℕ, length, ap, sym, subst, arith}
-use Rattle.std.specs.Prelude.{Option, Some}
-use Rattle.ptp_profile.specs.Timers.{due_of}
+use Rattle.std.proofs.Common.{rules, ◌≡◌, ◌∙◌, ◌≤◌, length, ap, sym, subst, arith}
+use Rattle.std.specs.Prelude.{Some}
 use Rattle.bc_history.specs.Inputs.{port_at}
-use Rattle.bc_history.specs.State.{HubPort}
 use Rattle.bc_history.specs.Step.{state_of}
 use Rattle.hub_core.specs.Hubs.{HubState, history_of}
 use Rattle.hub_core.specs.declared.hub.Hub.TheInside.{Inside}

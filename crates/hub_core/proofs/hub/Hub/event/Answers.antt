@@ -1,4 +1,4 @@
-use Rattle.std.proofs.Common.{◌≡◌, ◌∙◌, ◌<◌, ◌≤◌, ◌*◌, ℕ, List, [], ◌∷◌, ◌++◌, length, refl, sym, ap, subst, arith}
+use Rattle.std.proofs.Common.{◌∙◌, List, [], ◌∷◌, ◌++◌, refl, sym, ap, subst, arith}
 use Rattle.bc_history.specs.declared.entry.Effects.{Effects}
 use Rattle.bc_history.specs.declared.entry.Entry.{Entry}
 use Rattle.bc_history.specs.declared.entry.Input.{Input}
@@ -7,7 +7,7 @@ use Rattle.bc_history.specs.Next.{IsDue}
 use Rattle.bc_history.specs.Step.{state_of}
 use Rattle.hub_core.specs.Hubs.{HubState, entry_by, history_of, with_event}
 use Rattle.hub_core.specs.declared.hub.Hub.TheInside.{Inside}
-use Rattle.hub_core.proofs.Histories.{HasTakenOne, IsRoomier, effects-told, event-taken, gener-roomier, hub-next, hub-same, logs-roomier, machine-roomier, seen_of}
+use Rattle.hub_core.proofs.Histories.{HasTakenOne, IsRoomier, effects-told, event-taken, gener-roomier, hub-next, hub-same, logs-roomier, machine-roomier}
 use Rattle.hub_core.proofs.hub.Hub.event.Goals as goal
 
 pub invariant_of-self-in_err-make_room : goal.invariant_of-self-in_err-make_room

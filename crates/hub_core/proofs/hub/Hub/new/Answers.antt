@@ -1,4 +1,4 @@
-use Rattle.std.proofs.Common.{◌≡◌, refl, subst, sym}
+use Rattle.std.proofs.Common.{refl, subst, sym}
 use Rattle.bc_history.specs.Opening.{opening}
 use Rattle.bc_history.specs.ScenarioRules.{IsScenario}
 use Rattle.bc_history.specs.declared.scenario.Scenario.{Scenario}

@@ -1,8 +1,7 @@
-use Rattle.std.proofs.Common.{◌≡◌, ◌∙◌, ◌≤◌, ℕ, List, [], length, map, refl, sym, ap, subst, arith}
+use Rattle.std.proofs.Common.{◌≡◌, ◌∙◌, ℕ, List, length, map, sym, ap, subst}
 use Rattle.std.proofs.lemmas.List.{length-map}
 use Rattle.ptp_base.specs.declared.port.PortConf.{PortConf}
 use Rattle.model_clock.specs.declared.state.ClockState.{ClockState}
-use Rattle.bc_history.specs.declared.scenario.Options.{Options}
 use Rattle.bc_history.specs.declared.scenario.Scenario.{Scenario}
 use Rattle.bc_history.specs.Opening.{opening}
 use Rattle.hub_core.specs.Deciding.{HasPlaces, HasRoom}

@@ -1,28 +1,22 @@
-use Rattle.std.proofs.Common.{rules, w64, ◌≡◌, ◌∙◌, ℕ, ◌+◌, ◌<◌, ◌≤◌, List, [], ◌∷◌, ◌++◌, length, map, refl, sym, ap, subst, arith, Option, Some}
-use Rattle.std.specs.Prelude.{All, option_and_then}
+use Rattle.std.proofs.Common.{rules, w64, ◌≡◌, ◌∙◌, ℕ, ◌<◌, ◌≤◌, List, [], ◌∷◌, length, refl, sym, ap, subst, arith, Option, Some}
+use Rattle.std.specs.Prelude.{All}
 use Rattle.std.proofs.lemmas.Int.{to_z-of_z}
 use Rattle.std.proofs.lemmas.List.{length-map}
 use Rattle.ptp_profile.specs.DataSets.{Master}
 use Rattle.bc_history.specs.declared.entry.Effects.{Effects}
 use Rattle.bc_history.specs.declared.entry.Entry.{Entry}
 use Rattle.bc_history.specs.declared.entry.Sent.{Sent}
-use Rattle.bc_history.specs.declared.scenario.Options.{Options}
 use Rattle.bc_history.specs.declared.scenario.Scenario.{Scenario}
 use Rattle.bc_history.specs.Effects.{entry_after, event, frames_at}
-use Rattle.bc_history.specs.Generations.{clocks_of, states_of}
+use Rattle.bc_history.specs.Generations.{clocks_of}
 use Rattle.bc_history.specs.State.{Core, Event, State}
 use Rattle.bc_history.specs.declared.entry.Input.{Input}
 use Rattle.bc_history.specs.declared.entry.Seen.{Seen}
-use Rattle.ptp_profile.specs.Roles.{AtMostOneFollows}
-use Rattle.bc_history.specs.Inputs.{port_at, port_of}
 use Rattle.bc_history.specs.Next.{IsDue}
 use Rattle.bc_history.specs.Step.{core_after, state_of}
-use Rattle.bc_history.proofs.Following.{one_follows}
 use Rattle.bc_history.proofs.Faces.{ports-length}
-use Rattle.hub_core.specs.Machine.{IsMachine, clocks_by}
-use Rattle.hub_core.specs.Owning.{IsReadyAmong, IsThere}
+use Rattle.hub_core.specs.Owning.{IsThere}
 use Rattle.hub_core.specs.Serving.{IsMade}
-use Rattle.hub_core.specs.Standing.{IsCore, IsOf}
 use Rattle.hub_core.proofs.Dues.{IsReadyAmong-set, IsSetAt-due}
 use Rattle.hub_core.proofs.Entries.{clocks-ports, effects-at, machine-next, made-at, moment-at, seen-at, seen-entry, there-machine}
 use Rattle.hub_core.proofs.Bounds.{clock-below, clocks-below, clocks-long, few-moves}

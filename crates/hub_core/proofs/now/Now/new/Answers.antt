@@ -1,8 +1,7 @@
-use Rattle.std.proofs.Common.{◌≡◌, ◌∙◌, ◌≤◌, List, [], length, refl, sym, ap, subst, arith}
+use Rattle.std.proofs.Common.{◌≡◌, ◌∙◌, List, length, refl, ap, subst}
 use Rattle.ptp_base.specs.declared.port.PortConf.{PortConf}
-use Rattle.bc_history.specs.declared.scenario.Options.{Options}
 use Rattle.bc_history.specs.declared.scenario.Scenario.{Scenario}
-use Rattle.hub_core.specs.Opened.{ArePortsFrom, IsOpened}
+use Rattle.hub_core.specs.Opened.{ArePortsFrom}
 use Rattle.hub_core.proofs.Beginning.{opened-is}
 use Rattle.hub_core.proofs.now.Now.new.Goals as goal
 
