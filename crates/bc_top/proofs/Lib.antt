@@ -12,6 +12,7 @@ pub mod Building
 pub mod Untimed
 pub mod Serving
 pub mod Turning
+pub mod LawfulLogs
 pub mod Lines
 pub mod Texts
 pub mod Stood

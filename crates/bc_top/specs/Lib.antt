@@ -7,6 +7,7 @@ pub mod Cursor
 pub mod Loop
 pub mod Built
 pub mod Replaying
+pub mod Lawful
 pub mod Sooner
 pub mod Going
 pub mod Call

@@ -3,6 +3,7 @@ ghost use Rattle.bc_history.specs.World.{IsWorld};
 ghost use Rattle.bc_top.specs.Built.{IsBuilt};
 ghost use Rattle.bc_top.specs.Cursor.{AreCursors};
 ghost use Rattle.bc_top.specs.Going.{IsDueFirst, IsFirst, IsGoing, IsUnderWay, HasServed};
+ghost use Rattle.bc_top.specs.Lawful.{HasLawfulLogs};
 ghost use Rattle.bc_top.specs.Replaying.{IsReplayError};
 
 use crate::cursor::next_of;
@@ -99,11 +100,13 @@ fn take_turn(
     Ok(())
 }
 
-/// The run of a scenario that is built. At each turn it looks once at each port, and copies nothing
+/// The run of a scenario that is built. Its logs are lawful: each has the history's orders for its
+/// clock, all and in order, and each change bears the stamp in force before it. At each turn it looks once at each port, and copies nothing
 /// of the history.
 pub fn replay(alloc: Global, s: &Scenario) -> Result<Run, ReplayError>
     requires built { IsBuilt s.now }
     ensures run { IfOk result (λ run. IsWorld s.now run) }
+    ensures lawful { IfOk result (λ run. HasLawfulLogs s.now run) }
     ensures error { IfErr result (IsReplayError s.now) }
 {
     s.rules();

@@ -1,5 +1,9 @@
+use crate::parts::port_count;
 use crate::tests::{REFUSED, source, words};
 use crate::{End, offline};
+use bc_config::scenario;
+use hub_core::Hub;
+use ptp_profile::Timer;
 use std::alloc::Global;
 use std::test::Fail;
 use text_io::{MemSink, Reason, SureSink, SureSource};
@@ -141,6 +145,25 @@ fn events_are_limited(rt: HostRuntime) -> Result<(), Fail> {
         let mut from = SureSource::new(text);
         let mut to = SureSink::new();
         assert_eq!(rt; offline(rt.alloc(), &replay, &mut from, &mut to), due);
+    }
+    Ok(())
+}
+
+/// Before its first event a hub has no entry, and its port waits for Announces.
+#[test]
+fn a_hub_begins_with_no_entry(rt: HostRuntime) -> Result<(), Fail> {
+    let Ok(s) = scenario(rt.alloc(), b"[port 1]\n") else {
+        assert!(rt; false);
+        return Ok(());
+    };
+    let Ok(hub) = Hub::new(rt.alloc(), &s) else {
+        assert!(rt; false);
+        return Ok(());
+    };
+    assert_eq!(rt; hub.entries().len(), 0);
+    assert_eq!(rt; hub.asked(), 0);
+    if port_count(&s) >= 1 {
+        assert_eq!(rt; hub.due(1), Some((6_000_000_000, Timer::AnnounceReceipt)));
     }
     Ok(())
 }

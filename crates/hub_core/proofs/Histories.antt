@@ -1,5 +1,6 @@
 -- A hub before and after an event.
 use Rattle.std.proofs.Common.{◌≡◌, ℕ, zero, suc, ◌+◌, ◌<◌, ◌≤◌, List, [], ◌∷◌, ◌++◌, length, reverse, fold, get_or, ◌-◌, refl, sym, ap, subst, ◌∙◌, arith, Option, Some, length-append}
+use Rattle.std.specs.Prelude.{slice_set}
 use Rattle.std.proofs.lemmas.List.{length-reverse}
 use Rattle.discipline_seat.proofs.Reversing.{reverse_push}
 use Rattle.ptp_profile.specs.declared.seats.LogEntry.{LogEntry}
@@ -32,7 +33,7 @@ use Rattle.hub_core.specs.declared.machine.Served.{Served}
 
 -- ---- before the first entry
 
-pub hub-opened : (i : Inside) → i.entries.items ≡ [] → IsScenario i.scenario.value → IsMachine i.scenario.value i.machine (opening i.scenario.value) → i.machine.roles.generation.gener ≡ 0 → i.asked ≡ 0 → IsHub i
+pub hub-opened : (i : Inside) → i.entries ≡ [] → IsScenario i.scenario.value → IsMachine i.scenario.value i.machine (opening i.scenario.value) → i.machine.roles.generation.gener ≡ 0 → i.asked ≡ 0 → IsHub i
 unfolding state_of
 hub-opened i none rules machine gener asked =
     let s = i.scenario.value in
@@ -81,7 +82,7 @@ pub logs-roomier : (old new : Rolling) → IsRoomier old new → new.seats.logs 
 logs-roomier old new more = ap (λ (r : Rolling). r.seats.logs) more.same
 
 -- the same history with another machine that stands for it
-pub hub-same : (i j : Inside) → IsHub i → j.scenario.value ≡ i.scenario.value → j.entries.items ≡ i.entries.items → j.asked ≡ i.asked
+pub hub-same : (i j : Inside) → IsHub i → j.scenario.value ≡ i.scenario.value → j.entries ≡ i.entries → j.asked ≡ i.asked
     → IsMachine i.scenario.value j.machine (state_of i.scenario.value (history_of i)) → j.machine.roles.generation.gener ≡ i.machine.roles.generation.gener → IsHub j
 hub-same i j was scenario entries asked machine gener =
     let history : history_of i ≡ history_of j = ap (λ (es : List Entry). reverse es) (sym entries) in
@@ -147,11 +148,16 @@ queries-after s before input seen served = queries-counted input (state_of s bef
 pub kept-is : (s : Scenario) (before : List Entry) (logs : List (List LogEntry)) (input : Input) (new : Machine) (made : Served) (is : HasServed s before logs input new made) → kept_entry input made ≡ is.entry
 kept-is s before logs input new made is = entry-after s before input _ made is.entry is.entry_is is.moment is.seen is.effects ∙ sym is.entry_is
 
+-- an entry in the place of the draft at the end
+pub drafted : (es : List Entry) (draft e : Entry) → slice_set (es ++ draft ∷ []) (length es) e ≡ es ++ e ∷ []
+drafted [] draft e = refl
+drafted (x ∷ es) draft e = ap (λ (xs : List Entry). x ∷ xs) (drafted es draft e)
+
 -- a hub that served one more input
 pub record HasTakenOne (i j : Inside) (input : Input) (logs : List (List LogEntry)) (made : Served) : Type 0 where
   pub scenario : j.scenario.value ≡ i.scenario.value
   pub served : HasServed i.scenario.value (history_of i) logs input j.machine made
-  pub entries : j.entries.items ≡ i.entries.items ++ kept_entry input made ∷ []
+  pub entries : j.entries ≡ i.entries ++ kept_entry input made ∷ []
   pub asked : j.asked ≡ i.asked
   pub gener : j.machine.roles.generation.gener ≤ i.machine.roles.generation.gener + 1
   pub logs_before : logs ≡ i.machine.roles.seats.logs
@@ -159,10 +165,10 @@ pub record HasTakenOne (i j : Inside) (input : Input) (logs : List (List LogEntr
 
 history-one : (i j : Inside) (input : Input) (logs : List (List LogEntry)) (made : Served) (is : HasTakenOne i j input logs made) → history_of j ≡ is.served.entry ∷ history_of i
 history-one i j input logs made is =
-    ap (λ (es : List Entry). reverse es) is.entries ∙ (reverse_push i.entries.items (kept_entry input made)
+    ap (λ (es : List Entry). reverse es) is.entries ∙ (reverse_push i.entries (kept_entry input made)
     ∙ ap (λ (e : Entry). e ∷ history_of i) (kept-is i.scenario.value (history_of i) logs input j.machine made is.served))
 
-pub hub-next : (i j : Inside) (input : Input) (logs : List (List LogEntry)) (made : Served) → IsHub i → length i.entries.items < 131071 → IsServed input → IsDue i.scenario.value (state_of i.scenario.value (history_of i)) input
+pub hub-next : (i j : Inside) (input : Input) (logs : List (List LogEntry)) (made : Served) → IsHub i → length i.entries < 131071 → IsServed input → IsDue i.scenario.value (state_of i.scenario.value (history_of i)) input
     → HasTakenOne i j input logs made → IsHub j
 hub-next i j input logs made was few served due is =
     let s = i.scenario.value in
@@ -171,8 +177,8 @@ hub-next i j input logs made was few served due is =
     let history : history_of j ≡ is.served.entry ∷ before = history-one i j input logs made is in
     let move : (P : Scenario → List Entry → Type 0) → P s (is.served.entry ∷ before) → P j.scenario.value (history_of j) =
     λ P p. subst (λ (x : Scenario). P x (history_of j)) (sym is.scenario) (subst (λ (h : List Entry). P s h) (sym history) p) in
-    let long = length-reverse i.entries.items in
-    let more = ap (λ (es : List Entry). length es) is.entries ∙ length-append i.entries.items (kept_entry input made ∷ []) in
+    let long = length-reverse i.entries in
+    let more = ap (λ (es : List Entry). length es) is.entries ∙ length-append i.entries (kept_entry input made ∷ []) in
     let follows = subst (λ (e : Entry). Follows s before e) (sym is.served.entry_is) (follows-after s before input reading due) in
     let asked = ap (λ (e : Entry). (state_of s (e ∷ before)).queries) is.served.entry_is ∙ queries-after s before input reading served in
     record {

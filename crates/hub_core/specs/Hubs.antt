@@ -1,9 +1,10 @@
 -- A hub: its scenario, its history and the clocks' logs; and what an event adds to it.
-use Rattle.std.specs.Prelude.{◌≡◌, ◌≤◌, List, [], ◌∷◌, length, map, fold, reverse, Option}
+use Rattle.std.specs.Prelude.{◌≡◌, ◌≤◌, List, [], ◌∷◌, length, map, fold, reverse, Option, None}
 use Rattle.model_clock.specs.declared.state.ClockState.{ClockState}
 use Rattle.ptp_profile.specs.declared.seats.LogEntry.{LogEntry}
 use Rattle.bc_history.specs.declared.entry.Entry.{Entry}
 use Rattle.bc_history.specs.declared.entry.Input.{Input}
+use Rattle.bc_history.specs.declared.entry.Input.TheVariants.{Down}
 use Rattle.bc_history.specs.declared.entry.Seen.{Seen}
 use Rattle.bc_history.specs.declared.scenario.Scenario.{Scenario}
 use Rattle.bc_history.specs.Effects.{entry_after}
@@ -42,13 +43,22 @@ with_event h input = record h { entries = entry_by h input ∷ h.entries; logs =
 abbrev pub AreLawfulLogs : HubState → Type 0
 AreLawfulLogs h = AreLawful (state_of h.scenario h.entries).roles.orders h.logs
 
+-- what stands in the place of an entry while it is made
+abbrev pub draft_entry : Entry
+draft_entry = record {
+  input = Down 0 0;
+  moment = 0;
+  seen = None;
+  effects = record { fate = None; states = []; parent = None; orders = []; measure = None; frames = []; told = None; asked = None; answers = [] };
+}
+
 abbrev pub history_of : Inside → List Entry
-history_of i = reverse i.entries.items
+history_of i = reverse i.entries
 
 -- what always holds of a hub
 pub record IsHub (i : Inside) : Type 0 where
   pub rules : IsScenario i.scenario.value
   pub history : IsHistory i.scenario.value (history_of i)
   pub machine : IsMachine i.scenario.value i.machine (state_of i.scenario.value (history_of i))
-  pub gener : i.machine.roles.generation.gener ≤ length i.entries.items
+  pub gener : i.machine.roles.generation.gener ≤ length i.entries
   pub asked : i.asked ≡ (state_of i.scenario.value (history_of i)).queries

@@ -1,4 +1,4 @@
-ghost use Rattle.std.specs.Prelude.{◌≡◌, ℕ, ◌≤◌, ◌<◌, ◌↔◌, List, [], ◌∷◌, length, reverse, Some, Err, IfOk, OnOk, OnErr, vec_len, vec_capacity};
+ghost use Rattle.std.specs.Prelude.{◌≡◌, ℕ, ◌≤◌, ◌<◌, ◌↔◌, List, [], ◌∷◌, length, reverse, Some, Err, IfOk, OnOk, OnErr};
 ghost use Rattle.ptp_profile.specs.Timers.{due_of};
 ghost use Rattle.bc_history.specs.History.{IsHistory};
 ghost use Rattle.bc_history.specs.Inputs.{port_at};
@@ -6,7 +6,7 @@ ghost use Rattle.bc_history.specs.Next.{IsDue};
 ghost use Rattle.bc_history.specs.State.{HubPort};
 ghost use Rattle.bc_history.specs.Step.{state_of};
 ghost use Rattle.discipline_seat.specs.Seats.{logs_from};
-ghost use Rattle.hub_core.specs.Hubs.{HubState, entry_by, opened, with_event, AreLawfulLogs};
+ghost use Rattle.hub_core.specs.Hubs.{HubState, draft_entry, entry_by, opened, with_event, AreLawfulLogs};
 ghost use Rattle.hub_core.specs.Taking.{IsServed};
 
 use crate::copies::trimmed_effects;
@@ -50,7 +50,7 @@ pub struct Hub {
     alloc: Global,
     scenario: Snapshot<Scenario>,
     machine: Machine,
-    entries: Vec<Entry>,
+    entries: Entries,
     asked: u32,
 }
 
@@ -74,7 +74,7 @@ impl Hub {
             alloc,
             scenario: Snapshot::of(s),
             machine: Machine::new(alloc, s)?,
-            entries: Vec::new(alloc),
+            entries: Items::new(alloc),
             asked: 0,
         })
     }
@@ -99,15 +99,17 @@ impl Hub {
         let rooms = Rooms::with(self.alloc, ports, clocks)?;
         let copies = Copies::with(self.alloc, ports, clocks)?;
         self.machine.roles.reserve()?;
-        make_room(&mut self.entries)?;
+        let last = self.entries.len();
+        self.entries.push(draft(self.alloc))?;
         let served = self.machine.serve(self.alloc, &input, rooms);
         let effects = copies.of(self.alloc, &served.effects);
-        self.entries.push_reserved(Entry {
+        let entry = Entry {
             input,
             moment: served.moment,
             seen: served.seen,
             effects: trimmed_effects(served.effects),
-        });
+        };
+        self.entries.set(last, entry);
         Ok(effects)
     }
 
@@ -130,12 +132,12 @@ impl Hub {
 
     /// Lends the history, the oldest entry first: each entry was due after those before it, and has the
     /// moment and the effects that follow. Takes no memory.
-    pub fn entries(&self) -> &[Entry]
+    pub fn entries(&self) -> &Entries
         ensures entries { result.now ≡ reverse self.now.entries }
         ensures history { IsHistory self.now.scenario self.now.entries }
         ensures lawful { AreLawfulLogs self.now }
     {
-        self.entries.as_slice()
+        &self.entries
     }
 
     /// The history, the oldest entry first, and the clocks' logs. Takes no memory.
@@ -150,16 +152,28 @@ impl Hub {
             entries,
             ..
         } = self;
-        (Items::from_vec(entries), machine.roles.part())
+        (entries, machine.roles.part())
     }
 }
 
-/// Makes a place for one more entry, or leaves the list as before.
-fn make_room(entries: &mut Vec<Entry>) -> Result<(), NoMemory>
-    ensures items { entries.new.items ≡ entries.old.items }
-    ensures len { entries.new.len ≡ entries.old.len }
-    ensures ok { OnOk result (vec_len entries.new < vec_capacity entries.new) }
+/// What stands in the place of an entry while it is made.
+fn draft(alloc: Global) -> Entry
+    ensures { result ≡ draft_entry }
 {
-    entries.reserve(1)?;
-    Ok(())
+    Entry {
+        input: Input::Down { port: 0, tick: 0 },
+        moment: 0,
+        seen: None,
+        effects: Effects {
+            fate: None,
+            states: Items::new(alloc),
+            parent: None,
+            orders: Items::new(alloc),
+            measure: None,
+            frames: Items::new(alloc),
+            told: None,
+            asked: None,
+            answers: Items::new(alloc),
+        },
+    }
 }

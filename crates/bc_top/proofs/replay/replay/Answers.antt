@@ -1,3 +1,4 @@
+use Rattle.bc_top.proofs.LawfulLogs.{lawful-parted}
 use Rattle.bc_top.proofs.Serving.{finished}
 use Rattle.bc_top.proofs.Turning.{going-opening, none_due}
 use Rattle.bc_top.proofs.replay.replay.Goals as goal
@@ -9,3 +10,7 @@ pub returns-clause-run : goal.returns-clause-run
 returns-clause-run c =
     finished c.args.s.now c.turns.hub c.part-entries.result.0 c.part-entries.result.1 c.requires.built c.turns.invariant.under_way
     (none_due c.args.s.now c.turns.hub c.in_ok-k.field-0 c.in_default.is c.in_ok-k.ensures) c.part-entries.ensures.entries c.part-entries.ensures.logs
+
+pub returns-clause-lawful : goal.returns-clause-lawful
+returns-clause-lawful c =
+    lawful-parted c.args.s.now c.turns.hub c.part-entries.result.0 c.part-entries.result.1 c.turns.invariant.under_way.scenario c.part-entries.ensures.entries c.part-entries.ensures.logs c.part-entries.ensures.lawful

@@ -1,20 +1,21 @@
-use Rattle.std.proofs.Common.{◌∙◌, List, [], ◌∷◌, ◌++◌, refl, sym, ap, subst, arith}
+use Rattle.std.proofs.Common.{ℕ, ◌∙◌, List, [], ◌∷◌, ◌++◌, refl, sym, ap, subst, arith}
 use Rattle.bc_history.specs.declared.entry.Effects.{Effects}
 use Rattle.bc_history.specs.declared.entry.Entry.{Entry}
 use Rattle.bc_history.specs.declared.entry.Input.{Input}
 use Rattle.hub_core.specs.declared.machine.Served.{Served}
+use Rattle.std.specs.Prelude.{slice_set}
 use Rattle.bc_history.specs.Next.{IsDue}
 use Rattle.bc_history.specs.Step.{state_of}
 use Rattle.hub_core.specs.Hubs.{HubState, entry_by, history_of, with_event}
 use Rattle.hub_core.specs.declared.hub.Hub.TheInside.{Inside}
-use Rattle.hub_core.proofs.Histories.{HasTakenOne, IsRoomier, effects-told, event-taken, gener-roomier, hub-next, hub-same, logs-roomier, machine-roomier}
+use Rattle.hub_core.proofs.Histories.{HasTakenOne, IsRoomier, drafted, effects-told, event-taken, gener-roomier, hub-next, hub-same, logs-roomier, machine-roomier}
 use Rattle.hub_core.proofs.hub.Hub.event.Goals as goal
 
-pub invariant_of-self-in_err-make_room : goal.invariant_of-self-in_err-make_room
-invariant_of-self-in_err-make_room c =
+pub invariant_of-self-in_err-push : goal.invariant_of-self-in_err-push
+invariant_of-self-in_err-push c =
     let i : Inside = c.self.inside in
     let more : IsRoomier i.machine.roles c.reserve.new.self = record { spare = c.reserve.new.self.seats.spare; same = c.reserve.ensures.same } in
-    hub-same i _ c.self.invariant refl c.make_room.ensures.items refl
+    hub-same i _ c.self.invariant refl c.in_err-push.ensures.err refl
     (machine-roomier i.scenario.value i.machine _ c.reserve.new.self c.self.invariant.machine more) (gener-roomier i.machine.roles c.reserve.new.self more)
 
 pub serve-served-requires-clause-at : goal.serve-served-requires-clause-at
@@ -36,10 +37,10 @@ abbrev entry_with : Input → Served → Effects → Entry
 entry_with input made effects = record { input = input; moment = made.moment; seen = made.seen; effects = effects }
 
 -- the hub after the event
-abbrev after : goal.After-push_reserved → Inside
-after c = record { alloc = c.self.inside.alloc; scenario = c.self.inside.scenario; machine = c.serve-served.new.self; entries = c.push_reserved.new.self; asked = c.self.inside.asked }
+abbrev after : goal.After-set → Inside
+after c = record { alloc = c.self.inside.alloc; scenario = c.self.inside.scenario; machine = c.serve-served.new.self; entries = c.set.new.self; asked = c.self.inside.asked }
 
-taken : (c : goal.After-push_reserved) → HasTakenOne c.self.inside (after c) c.args.input c.reserve.new.self.seats.logs c.serve-served.result
+taken : (c : goal.After-set) → HasTakenOne c.self.inside (after c) c.args.input c.reserve.new.self.seats.logs c.serve-served.result
 taken c =
     let i : Inside = c.self.inside in
     let more : IsRoomier i.machine.roles c.reserve.new.self = record { spare = c.reserve.new.self.seats.spare; same = c.reserve.ensures.same } in
@@ -50,8 +51,11 @@ taken c =
           (machine-roomier i.scenario.value i.machine _ c.reserve.new.self c.self.invariant.machine more)
           (subst (λ (h : HubState). IsDue h.scenario (state_of h.scenario h.entries) c.args.input) (sym c.self.view_is) c.requires.due);
       entries =
-          c.push_reserved.ensures.items ∙ ap (λ (es : List Entry). es ++ entry_with c.args.input c.serve-served.result c.trimmed_effects.result ∷ []) c.make_room.ensures.items
-          ∙ ap (λ (f : Effects). i.entries.items ++ entry_with c.args.input c.serve-served.result f ∷ []) c.trimmed_effects.ensures;
+          c.set.ensures
+          ∙ (ap (λ (es : List Entry). slice_set es c.len-last.result (entry_with c.args.input c.serve-served.result c.trimmed_effects.result)) c.in_ok-push.ensures.ok
+          ∙ (ap (λ (k : ℕ). slice_set (i.entries ++ c.draft.result ∷ []) k (entry_with c.args.input c.serve-served.result c.trimmed_effects.result)) c.len-last.ensures
+          ∙ (drafted i.entries c.draft.result (entry_with c.args.input c.serve-served.result c.trimmed_effects.result)
+          ∙ ap (λ (f : Effects). i.entries ++ entry_with c.args.input c.serve-served.result f ∷ []) c.trimmed_effects.ensures)));
       asked = refl;
       gener = omega (arith, c.serve-served.ensures.gener, gener);
       logs_before = logs-roomier i.machine.roles c.reserve.new.self more;
