@@ -15,7 +15,7 @@ use Rattle.bc_history.specs.Telling.{told, announced, posted_from}
 use Rattle.bc_history.specs.Step.{step, state_of, core_after, counted}
 use Rattle.ptp_profile.specs.Timers.{due_of}
 use Rattle.bc_history.specs.Next.{port_input, records_of, input_of, turn_tick}
-use Rattle.hub_core.specs.Taking.{IsServed}
+use Rattle.bc_ports.specs.Taking.{IsServed}
 use Rattle.bc_top.specs.Loop.{IsOfPort, AreOfPorts}
 use Rattle.bc_top.proofs.NextInputs.{next-is}
 

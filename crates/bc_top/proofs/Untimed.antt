@@ -38,8 +38,8 @@ use Rattle.bc_history.specs.Deciding.{decided, heard, renewed_by, raises, is_kep
 use Rattle.bc_history.specs.Step.{step, state_of, core_after, measure_at}
 use Rattle.bc_history.specs.Effects.{effects_of, entry_after, event}
 use Rattle.bc_history.specs.Next.{records_of, input_of, port_input, IsNext, IsNextOf, IsDue}
-use Rattle.hub_core.specs.Taking.{IsServed}
-use Rattle.hub_core.proofs.Servings.{acted-measured}
+use Rattle.bc_ports.specs.Taking.{IsServed}
+use Rattle.bc_ports.proofs.Servings.{acted-measured}
 use Rattle.bc_top.specs.Built.{IsTiming, IsReadTiming, IsUntimed, IsBuilt}
 use Rattle.bc_top.specs.Going.{AreUnmeasured}
 use Rattle.bc_top.specs.Loop.{IsDueAt, ports_after}

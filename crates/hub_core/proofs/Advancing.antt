@@ -23,10 +23,6 @@ use Rattle.hub_core.specs.Holding.{begun, orders_to, with_given, HasGone}
 use Rattle.hub_core.specs.Rolling.{no_roles, AreLawful, AreRolesOf, HaveAdvanced, Rolling}
 use Rattle.hub_core.proofs.Giving.{given, logs-given, ordered}
 
--- the stamp in force in a lawful log is that of the clock's last order
-pub stamp-lawful : (clock : ℕ) (orders : List RoleOrder) (log : List LogEntry) → IsLawful clock orders log → stamp_after log ≡ stamp_of clock orders
-stamp-lawful clock orders log h = stamp_after-lawful clock orders log h
-
 -- ---- the logs after orders
 -- an entry is added in one place
 set-changed : (logs : List (List LogEntry)) (i : ℕ) (order : RoleOrder) → set logs i (ordered order (get_or logs i [])) ≡ changed_at (ordered order) i logs

@@ -26,19 +26,19 @@ use Rattle.bc_history.specs.ScenarioRules.{IsScenario}
 use Rattle.bc_history.specs.State.{Core, Event, Follower, HubPort, Roles, State}
 use Rattle.bc_history.specs.Step.{core_after, state_of, step}
 use Rattle.bc_history.proofs.Faces.{ports-length, port-state_of}
-use Rattle.hub_core.specs.Deciding.{HasPlaces, HasRoom}
+use Rattle.bc_ports.specs.Deciding.{HasPlaces, HasRoom}
 use Rattle.hub_core.specs.Machine.{IsMachine, IsStampOf, clocks_by}
-use Rattle.hub_core.specs.Owning.{IsSetAt, IsThere}
+use Rattle.bc_ports.specs.Owning.{IsSetAt, IsThere}
 use Rattle.hub_core.specs.Reading.{input_seen, seen_in}
 use Rattle.hub_core.specs.Rolling.{AreRolesOf, HaveAdvanced, IsSameTable, Rolling}
-use Rattle.hub_core.specs.Serving.{IsMade}
-use Rattle.hub_core.specs.Standing.{IsCore, IsOf}
-use Rattle.hub_core.specs.Taking.{IsServed}
+use Rattle.bc_ports.specs.Serving.{IsMade}
+use Rattle.bc_ports.specs.Standing.{IsCore, IsOf}
+use Rattle.bc_ports.specs.Taking.{IsServed}
 use Rattle.hub_core.specs.Telling.{sent_by, told_by}
 use Rattle.hub_core.specs.declared.machine.Machine.{Machine}
-use Rattle.hub_core.specs.declared.now.Now.{Now}
-use Rattle.hub_core.specs.declared.serving.Made.{Made}
-use Rattle.hub_core.proofs.Dues.{IsSetAt-due, IsThere-due}
+use Rattle.bc_ports.specs.declared.now.Now.{Now}
+use Rattle.bc_ports.specs.declared.serving.Made.{Made}
+use Rattle.bc_ports.proofs.Dues.{IsSetAt-due, IsThere-due}
 use Rattle.hub_core.proofs.Machines.{of_port-due, there-at, placed-due, clock-there, seen-known, measure-known, sends-known, state-next}
 
 -- ---- ports of the machine

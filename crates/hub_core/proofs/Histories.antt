@@ -18,15 +18,15 @@ use Rattle.bc_history.specs.ScenarioRules.{IsScenario}
 use Rattle.bc_history.specs.State.{HubPort, State}
 use Rattle.bc_history.specs.Inputs.{port_at}
 use Rattle.ptp_profile.specs.Timers.{due_of}
-use Rattle.hub_core.specs.declared.port.PortNow.{PortNow}
-use Rattle.hub_core.proofs.Standings.{AllStandFor-get}
+use Rattle.bc_ports.specs.declared.port.PortNow.{PortNow}
+use Rattle.bc_ports.proofs.Standings.{AllStandFor-get}
 use Rattle.bc_history.specs.Step.{counted, state_of, step}
 use Rattle.bc_history.specs.World.{with_order}
 use Rattle.hub_core.specs.Hubs.{HubState, IsHub, entry_by, history_of, with_event}
 use Rattle.hub_core.specs.Machine.{HasServed, IsMachine, clocks_by}
 use Rattle.hub_core.specs.Reading.{input_seen}
 use Rattle.hub_core.specs.Rolling.{Rolling}
-use Rattle.hub_core.specs.Taking.{IsServed}
+use Rattle.bc_ports.specs.Taking.{IsServed}
 use Rattle.hub_core.specs.declared.hub.Hub.TheInside.{Inside}
 use Rattle.hub_core.specs.declared.machine.Machine.{Machine}
 use Rattle.hub_core.specs.declared.machine.Served.{Served}

@@ -42,8 +42,8 @@ use Rattle.hub_core.specs.Machine.{IsStampOf, clocks_by}
 use Rattle.hub_core.specs.Reading.{input_seen, seen_in}
 use Rattle.hub_core.specs.Rolling.{AreRolesOf, Rolling}
 use Rattle.hub_core.specs.Rooms.{IsShort}
-use Rattle.hub_core.specs.Serving.{under}
-use Rattle.hub_core.specs.Taking.{IsServed}
+use Rattle.bc_ports.specs.Serving.{under}
+use Rattle.bc_ports.specs.Taking.{IsServed}
 use Rattle.hub_core.specs.Telling.{held_for, sent_by}
 
 -- ---- the port of an input that is due

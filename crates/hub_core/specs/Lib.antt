@@ -1,13 +1,7 @@
-pub mod Standing
-pub mod Taking
-pub mod Owning
-pub mod Deciding
-pub mod Serving
 pub mod Rolling
+pub mod Holding
 pub mod Reading
 pub mod Rooms
 pub mod Telling
 pub mod Machine
-pub mod Opened
 pub mod Hubs
-pub mod Holding

@@ -13,13 +13,13 @@ use Rattle.bc_history.specs.Next.{IsDue}
 use Rattle.bc_history.specs.ScenarioRules.{IsScenario}
 use Rattle.bc_history.specs.State.{State}
 use Rattle.bc_history.specs.Step.{state_of}
-use Rattle.hub_core.specs.Deciding.{HasRoom, HasPlaces}
+use Rattle.bc_ports.specs.Deciding.{HasRoom, HasPlaces}
 use Rattle.hub_core.specs.Reading.{input_seen}
 use Rattle.hub_core.specs.Rolling.{AreRolesOf, Rolling}
-use Rattle.hub_core.specs.Standing.{IsCore, IsOf}
-use Rattle.hub_core.specs.Taking.{IsServed}
+use Rattle.bc_ports.specs.Standing.{IsCore, IsOf}
+use Rattle.bc_ports.specs.Taking.{IsServed}
 use Rattle.hub_core.specs.declared.machine.Machine.{Machine}
-use Rattle.hub_core.specs.declared.now.Now.{Now}
+use Rattle.bc_ports.specs.declared.now.Now.{Now}
 use Rattle.hub_core.specs.declared.machine.Served.{Served}
 
 -- the clock of each port

@@ -5,7 +5,7 @@ use Rattle.ptp_profile.specs.declared.timing.Measure.{Measure}
 use Rattle.ptp_profile.specs.declared.seats.Held.{Held}
 use Rattle.bc_history.specs.declared.entry.Effects.{Effects}
 use Rattle.bc_history.specs.declared.entry.Sent.{Sent}
-use Rattle.hub_core.specs.declared.serving.Made.{Made}
+use Rattle.bc_ports.specs.declared.serving.Made.{Made}
 
 -- a measure under a stamp
 abbrev pub held_for : Held → Measure → Measure × Held

@@ -7,7 +7,7 @@ ghost use Rattle.bc_history.specs.State.{HubPort};
 ghost use Rattle.bc_history.specs.Step.{state_of};
 ghost use Rattle.discipline_seat.specs.Seats.{logs_from};
 ghost use Rattle.hub_core.specs.Hubs.{HubState, draft_entry, entry_by, opened, with_event, AreLawfulLogs};
-ghost use Rattle.hub_core.specs.Taking.{IsServed};
+ghost use Rattle.bc_ports.specs.Taking.{IsServed};
 
 use crate::copies::trimmed_effects;
 use crate::machine::Machine;

@@ -4,31 +4,17 @@
 #![tactic(auto)]
 
 mod copies;
-mod deciding;
 mod hub;
-mod inputs;
-mod intake;
 mod machine;
-mod moves;
-mod now;
 mod opening;
-mod port;
 mod roles;
 mod rooms;
-mod scratch;
-mod serving;
-mod taking;
 mod telling;
 
 pub use hub::{Hub, HubError};
 pub use machine::{Machine, Served};
-pub use now::Now;
-pub use port::PortNow;
 pub use roles::Roles;
 pub use rooms::{Copies, Rooms};
-pub use scratch::{Scratch, Stages};
-pub use serving::Made;
-pub use taking::Taken;
 
 #[cfg(test)]
 mod roles_tests;

@@ -1,13 +1,12 @@
 ghost use Rattle.std.specs.Prelude.{◌≡◌, ℕ, ◌≤◌, List, [], length, map, Some, None, option_map};
 ghost use Rattle.bc_history.specs.Inputs.{is_read, port_of, value_of};
-ghost use Rattle.hub_core.specs.Owning.{IsThere};
+ghost use Rattle.bc_ports.specs.Owning.{IsThere};
 ghost use Rattle.hub_core.specs.Rooms.{HasPlacesFor};
-ghost use Rattle.hub_core.specs.Taking.{IsServed};
+ghost use Rattle.bc_ports.specs.Taking.{IsServed};
 ghost use Rattle.hub_core.specs.Telling.{told_by, held_for, sent_by};
 
-use crate::inputs::port_of;
-use crate::serving::Made;
 use bc_history::{Effects, Input, RoleOrders, Seen, Sends, Sent};
+use bc_ports::{Made, port_of};
 use port_engine::Frames;
 use ptp_base::{Items, Room};
 use ptp_profile::{Held, Measure};

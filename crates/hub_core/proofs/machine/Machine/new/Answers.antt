@@ -4,9 +4,9 @@ use Rattle.ptp_base.specs.declared.port.PortConf.{PortConf}
 use Rattle.model_clock.specs.declared.state.ClockState.{ClockState}
 use Rattle.bc_history.specs.declared.scenario.Scenario.{Scenario}
 use Rattle.bc_history.specs.Opening.{opening}
-use Rattle.hub_core.specs.Deciding.{HasPlaces, HasRoom}
+use Rattle.bc_ports.specs.Deciding.{HasPlaces, HasRoom}
 use Rattle.hub_core.specs.Rolling.{AreRolesOf, Rolling, no_roles}
-use Rattle.hub_core.proofs.Beginning.{roles_opened}
+use Rattle.hub_core.proofs.Advancing.{AreRolesOf-opening}
 use Rattle.hub_core.proofs.machine.Machine.new.Goals as goal
 
 pub returns-clause-machine : goal.returns-clause-machine
@@ -21,7 +21,7 @@ returns-clause-machine c =
       core = c.in_ok-new.ensures.core;
       of = c.in_ok-new.ensures.of;
       count = c.in_ok-new.ensures.count;
-      roles = subst (λ (r : Rolling). AreRolesOf r (opening s).roles) (sym roles) (roles_opened c.s.inside.options.seat_rows s);
+      roles = subst (λ (r : Rolling). AreRolesOf r (opening s).roles) (sym roles) (AreRolesOf-opening c.s.inside.options.seat_rows s);
       openings = ap (λ (r : Rolling). r.seats.openings) roles;
       logs = ap (λ (r : Rolling). length r.seats.logs) roles ∙ length-map s.clocks _;
       bests = subst (λ (k : ℕ). HasRoom k c.in_ok-with.field-0) count c.in_ok-with.ensures;

@@ -15,18 +15,18 @@ use Rattle.bc_history.specs.declared.entry.Seen.{Seen}
 use Rattle.bc_history.specs.Next.{IsDue}
 use Rattle.bc_history.specs.Step.{core_after, state_of}
 use Rattle.bc_history.proofs.Faces.{ports-length}
-use Rattle.hub_core.specs.Owning.{IsThere}
-use Rattle.hub_core.specs.Serving.{IsMade}
-use Rattle.hub_core.proofs.Dues.{IsReadyAmong-set, IsSetAt-due}
+use Rattle.bc_ports.specs.Owning.{IsThere}
+use Rattle.bc_ports.specs.Serving.{IsMade}
+use Rattle.bc_ports.proofs.Dues.{IsReadyAmong-set, IsSetAt-due}
 use Rattle.hub_core.proofs.Entries.{clocks-ports, effects-at, machine-next, made-at, moment-at, seen-at, seen-entry, there-machine}
 use Rattle.hub_core.proofs.Bounds.{clock-below, clocks-below, clocks-long, few-moves}
 use Rattle.hub_core.proofs.Machines.{few-frames, of_port-due, placed-due, sends-known, short-frames, state-next, step-core, there-at}
 use Rattle.hub_core.specs.Rooms.{AreFew, IsShort}
-use Rattle.hub_core.specs.Taking.{IsServed}
+use Rattle.bc_ports.specs.Taking.{IsServed}
 use Rattle.hub_core.specs.Telling.{told_by}
-use Rattle.hub_core.specs.declared.now.Now.{Now}
-use Rattle.hub_core.specs.declared.serving.Made.{Made}
-use Rattle.hub_core.proofs.Timed.{flags-state_of}
+use Rattle.bc_ports.specs.declared.now.Now.{Now}
+use Rattle.bc_ports.specs.declared.serving.Made.{Made}
+use Rattle.bc_ports.proofs.Timed.{flags-state_of}
 use Rattle.hub_core.proofs.machine.Machine.serve.Goals as goal
 
 pub clock_of-clock-requires-clause-there : goal.clock_of-clock-requires-clause-there

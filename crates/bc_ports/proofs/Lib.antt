@@ -1,0 +1,12 @@
+pub mod Items
+pub mod Keepings
+pub mod Frames
+pub mod Takings
+pub mod Standings
+pub mod Ownings
+pub mod Codes
+pub mod Decisions
+pub mod Servings
+pub mod Dues
+pub mod Timed
+pub mod Openings
