@@ -3,7 +3,8 @@ use Rattle.std.proofs.Common.{ℕ, ℤ, pos, negsuc, ◌≡◌, ◌+◌, ◌-◌
 use Rattle.std.proofs.Math.Nat.{mul-le-mul_left}
 use Rattle.std.proofs.lemmas.Int.{ints}
 use Rattle.ptp_base.specs.Floor.{floor_of}
-use Rattle.model_clock.specs.Clock.{IsWithin, held_time, counted, reading}
+use Rattle.model_clock.specs.Clock.{held_time, counted, reading}
+use Rattle.ptp_base.specs.Floor.{IsWithin}
 use Rattle.model_clock.specs.declared.state.ClockState.{ClockState}
 
 -- the quotients of two numbers, of which the second lies at most d wholes below the first

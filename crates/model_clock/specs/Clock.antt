@@ -1,21 +1,18 @@
 -- A clock that drifts, is stepped and is tuned. All of this is the project's own model of a clock. Ticks, times and steps are in ns,
 -- the ticks those of the scenario; frequencies and drifts are in ppb times 65,536.
-use Rattle.std.specs.Prelude.{ℕ, ℤ, pos, ◌-◌, ◌+ℤ◌, ◌*ℤ◌, neg_ℤ, ◌≤◌, ◌≤ℤ◌, int_lt, max, if◌then◌else◌}
-use Rattle.ptp_base.specs.Floor.{floor_of}
+use Rattle.std.specs.Prelude.{ℕ, ℤ, pos, ◌-◌, ◌+ℤ◌, ◌*ℤ◌, ◌≤◌, int_lt, max, if◌then◌else◌, List, slice_index_or}
+use Rattle.ptp_base.specs.Floor.{IsWithin, floor_of}
+use Rattle.ptp_base.specs.declared.number.TheConstants.{FREQ_MAX, TICK_MAX, TIME_MAX}
 use Rattle.model_clock.specs.declared.state.ClockState.{ClockState}
-
--- own: a number is of at most this magnitude
-abbrev pub IsWithin : ℤ → ℤ → Type 0
-IsWithin most z = (neg_ℤ most ≤ℤ z) × (z ≤ℤ most)
 
 -- own: a state that a clock may be in: its tick is at most 100,000 s, and its frequency within 900,000,000 ppb
 pub record IsClock (s : ClockState) : Type 0 where
-  pub tick : s.tick ≤ 100000000000000
-  pub freq : IsWithin (pos 58982400000000) s.freq
+  pub tick : s.tick ≤ TICK_MAX
+  pub freq : IsWithin FREQ_MAX s.freq
 
 -- own: a time held within 0 and one nanosecond less than 2^33 seconds
 abbrev pub held_time : ℤ → ℤ
-held_time z = if int_lt (pos 8589934591999999999) z then pos 8589934591999999999 else if int_lt z (pos 0) then pos 0 else z
+held_time z = if int_lt TIME_MAX z then TIME_MAX else if int_lt z (pos 0) then pos 0 else z
 
 -- own: how much time a clock counts at a rate while so many ns pass
 abbrev pub counted : ℤ → ℕ → ℤ
@@ -33,3 +30,11 @@ changed s tick step freq = record {
   freq = freq;
   drift = s.drift;
 }
+
+-- own: a clock at time 0 that does not drift
+abbrev pub plain_clock : ClockState
+plain_clock = record { tick = 0; time = pos 0; freq = pos 0; drift = pos 0 }
+
+-- the clock of an index; a clock that is not there is a plain one
+abbrev pub clock_at : List ClockState → ℕ → ClockState
+clock_at clocks clock = slice_index_or clocks clock plain_clock

@@ -1,5 +1,6 @@
 ghost use Rattle.std.specs.Prelude.{ℕ, ℤ, pos, ◌≡◌, ◌≤◌, ◌-◌, ◌+ℤ◌, ◌≤ℤ◌};
-ghost use Rattle.model_clock.specs.Clock.{IsWithin, IsClock, held_time, counted, reading, changed};
+ghost use Rattle.model_clock.specs.Clock.{IsClock, held_time, counted, reading, changed};
+ghost use Rattle.ptp_base.specs.Floor.{IsWithin};
 
 use ptp_base::{FREQ_MAX, TICK_MAX, TIME_MAX, floor_div};
 

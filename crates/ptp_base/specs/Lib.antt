@@ -1,3 +1,4 @@
 pub mod Floor
 pub mod Header
+pub mod Least
 pub mod Room

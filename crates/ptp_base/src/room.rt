@@ -43,10 +43,7 @@ impl<T: Drop> Room<T> {
         requires { 0 < self.old.spare }
         ensures { self.new ≡ record { items = self.old.items ++ item ∷ []; spare = self.old.spare - 1 } }
     {
-        match self.items.push(item) {
-            Ok(()) => {}
-            Err(_) => unreachable!(),
-        }
+        self.items.push_reserved(item);
         self.spare -= 1;
     }
 

@@ -8,6 +8,7 @@ use Rattle.std.proofs.lemmas.Option.{same_Some, slice_get-map}
 use Rattle.ptp_base.specs.declared.announcement.Announcement.{Announcement}
 use Rattle.ptp_base.specs.declared.decision.Code.{Code}
 use Rattle.ptp_base.specs.declared.decision.Code.TheVariants.{Stay, M1, M2, M3, P1, P2, S1}
+use Rattle.ptp_base.specs.declared.port.PortState.{PortState}
 use Rattle.ptp_profile.specs.declared.foreign.PortBest.{PortBest}
 use Rattle.ptp_profile.specs.Foreign.{ebest}
 use Rattle.ptp_profile.specs.Decision.{wins_against, wins_by_topology, is_received_on, never_follows, stays, code_of, bests_of, codes_of}
@@ -27,6 +28,29 @@ coded_follows false false m1 true s1 p2 e = absurd cc
 coded_follows false false m1 false true p2 e = refl
 coded_follows false false m1 false false true e = absurd cc
 coded_follows false false m1 false false false e = absurd cc
+
+coded_stays : (stay low m1 m2 s1 p2 : Bool) → coded stay low m1 m2 s1 p2 ≡ Stay → stay ≡ true
+coded_stays true low m1 m2 s1 p2 e = refl
+coded_stays false true true m2 s1 p2 e = absurd cc
+coded_stays false true false m2 s1 p2 e = absurd cc
+coded_stays false false m1 true s1 p2 e = absurd cc
+coded_stays false false m1 false true p2 e = absurd cc
+coded_stays false false m1 false false true e = absurd cc
+coded_stays false false m1 false false false e = absurd cc
+
+-- a port with S1 is the one that Ebest was received on
+pub code_of-S1 : (own : Announcement) (best : Option Announcement) (p : ℕ) (s : PortState) (erbest : Option Announcement) →
+    code_of own best p s erbest ≡ S1 → is_received_on p best ≡ true
+code_of-S1 own best p s erbest e =
+    coded_follows (stays s erbest) (never_follows own) (wins_against own erbest) (wins_against own best) (is_received_on p best)
+    (wins_by_topology best erbest) e
+
+-- a port with Stay decides nothing
+pub code_of-Stay : (own : Announcement) (best : Option Announcement) (p : ℕ) (s : PortState) (erbest : Option Announcement) →
+    code_of own best p s erbest ≡ Stay → stays s erbest ≡ true
+code_of-Stay own best p s erbest e =
+    coded_stays (stays s erbest) (never_follows own) (wins_against own erbest) (wins_against own best) (is_received_on p best)
+    (wins_by_topology best erbest) e
 
 abbrev code_at : Announcement → List PortBest → ℕ → PortBest → Code
 code_at own ports i port = code_of own (ebest (bests_of ports)) (1 + i) port.state port.best
@@ -53,14 +77,7 @@ received : (own : Announcement) (ports : List PortBest) (i : ℕ) (o : Option Po
     option_map (code_at own ports i) o ≡ Some S1 → is_received_on (1 + i) (ebest (bests_of ports)) ≡ true
 received own ports i None e = absurd cc
 received own ports i (Some port) e =
-    coded_follows
-    (stays port.state port.best)
-    (never_follows own)
-    (wins_against own port.best)
-    (wins_against own (ebest (bests_of ports)))
-    (is_received_on (1 + i) (ebest (bests_of ports)))
-    (wins_by_topology (ebest (bests_of ports)) port.best)
-    (same_Some (code_at own ports i port) S1 e)
+    code_of-S1 own (ebest (bests_of ports)) (1 + i) port.state port.best (same_Some (code_at own ports i port) S1 e)
 
 named : (i : ℕ) (o : Option Announcement) → is_received_on (1 + i) o ≡ true → IsSomeAnd o (λ (best : Announcement). best.receiver.port ≡ i + 1)
 named i None e = absurd cc

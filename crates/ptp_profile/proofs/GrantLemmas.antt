@@ -1,6 +1,6 @@
 -- A stamp in force was ordered.
-use Rattle.std.proofs.Common.{◌≡◌, ◌≢◌, ℕ, zero, suc, ◌<◌, List, [], ◌∷◌, length, refl, sym, ◌∙◌, arith}
-use Rattle.std.specs.Prelude.{Contains, slice_index_or}
+use Rattle.std.proofs.Common.{◌≢◌, suc, List, [], ◌∷◌, refl, arith}
+use Rattle.std.specs.Prelude.{Contains}
 use Rattle.ptp_profile.specs.declared.seats.LogEntry.{LogEntry}
 use Rattle.ptp_profile.specs.declared.seats.LogEntry.TheVariants.{Order, Change}
 use Rattle.ptp_profile.specs.Logs.{stamp_after, HasOrder}

@@ -7,7 +7,8 @@ use Rattle.std.proofs.lemmas.List.Sums.{fold-append}
 use Rattle.ptp_profile.specs.declared.roles.RoleOrder.{RoleOrder}
 use Rattle.ptp_profile.specs.declared.seats.LogEntry.{LogEntry}
 use Rattle.ptp_profile.specs.declared.seats.LogEntry.TheVariants.{Order, Change}
-use Rattle.ptp_profile.specs.Roles.{Stamp, stamp_of}
+use Rattle.ptp_profile.specs.declared.roles.Stamp.{Stamp}
+use Rattle.ptp_profile.specs.Roles.{stamp_of}
 use Rattle.ptp_profile.specs.Forest.{ctrls_by, ctrls_after}
 use Rattle.ptp_profile.specs.Logs.{stamp_after, log_after, entry_at, is_order, order_entry, orders_for, IsStamped, AreStamped, IsLawful}
 

@@ -1,8 +1,8 @@
 -- Management messages: what was written is read again, and what is read is what the octets say.
-use Rattle.std.proofs.Common.{◌≡◌, ℕ, pos, ◌+◌, ◌-◌, ◌/◌, ◌%◌, ◌^◌, ◌<◌, ◌≤◌, ◌⊎◌, inl, inr, List, [], ◌∷◌, ◌++◌, length, take, drop, refl, sym, ap, ◌∙◌, arith, rules, lit<, lit≤, Bool, true, false, cond}
+use Rattle.std.proofs.Common.{◌≡◌, ℕ, ◌+◌, ◌/◌, ◌%◌, ◌^◌, ◌<◌, ◌≤◌, ◌⊎◌, inl, inr, List, [], ◌∷◌, ◌++◌, length, take, drop, refl, sym, ap, ◌∙◌, arith, rules, lit<, lit≤, Bool, true, false, cond}
 use Rattle.std.proofs.lemmas.Bool.Decides.{nat_tests}
 use Rattle.std.proofs.lemmas.List.{take_at, drop_at, length-append, drop-take}
-use Rattle.std.specs.Prelude.{slice_index, Option, Some, None, nat_le, ◌==◌, ◌&&◌, ◌||◌}
+use Rattle.std.specs.Prelude.{slice_index, Some, None, nat_le, ◌==◌, ◌&&◌, ◌||◌}
 use Rattle.byteorder.specs.Endian.{big_bytes}
 use Rattle.byteorder.specs.Numbers.{big_number-reads_back}
 use Rattle.ptp_base.specs.declared.head.Head.{Head}
@@ -15,7 +15,7 @@ use Rattle.ptp_profile.specs.declared.management.Tlv.{Tlv}
 use Rattle.ptp_profile.specs.declared.management.Tlv.TheVariants.{Management, Error}
 use Rattle.ptp_profile.specs.Wire.{number_at, port_at}
 use Rattle.ptp_profile.specs.Spelled.{FitsPort}
-use Rattle.ptp_profile.specs.Management.{action_number, action_numbered, tlv_octets, tlv_length, managed_head, purpose_octets, managed_octets, tlv_at, managed_at, is_tlv, is_managed, managed_read, IsManaged, ReadsManaged, FitsTlv, FitsManaged}
+use Rattle.ptp_profile.specs.Management.{action_number, action_numbered, tlv_octets, tlv_length, managed_head, managed_octets, tlv_at, managed_at, is_tlv, is_managed, managed_read, IsManaged, ReadsManaged, FitsTlv, FitsManaged}
 use Rattle.ptp_profile.proofs.WireRoundTrip.{HeadReads, head_reads}
 
 -- ---- what is read

@@ -1,14 +1,15 @@
 -- Where at most one port follows a master, it is the one that drives.
-use Rattle.std.proofs.Common.{◌≡◌, ◌≢◌, ℕ, zero, suc, ◌+◌, ◌<◌, ◌≤◌, Bool, true, false, cond, eqb, List, [], ◌∷◌, Some, None, refl, sym, ap, ◌∙◌, inl, inr, arith, eq-eqb, ne_eqb}
+use Rattle.std.proofs.Common.{◌≡◌, ◌≢◌, ℕ, zero, suc, ◌+◌, ◌<◌, ◌≤◌, Bool, true, false, cond, eqb, List, [], ◌∷◌, length, map, replicate, Option, Some, None, refl, sym, ap, ◌∙◌, inl, inr, arith, eq-eqb, ne_eqb}
 use Rattle.std.specs.Prelude.{count_by, slice_get}
-use Rattle.std.specs.List.{zip, position_from}
+use Rattle.std.specs.List.{zip, position_from, range_with_len}
 use Rattle.std.proofs.lemmas.Bool.{cases_lt, and_from, and_right, and_left}
 use Rattle.std.proofs.lemmas.List.{get_or_past}
 use Rattle.std.proofs.lemmas.List.Sums.{sum_by-cons}
-use Rattle.std.proofs.lemmas.List.FromFn.{length-map-range_with_len, get_or-map-range_with_len}
+use Rattle.std.proofs.lemmas.List.FromFn.{length-range_with_len, length-map-range_with_len, get_or-map-range_with_len}
 use Rattle.ptp_base.specs.declared.identity.PortId.{PortId}
 use Rattle.ptp_base.specs.declared.port.PortState.{PortState}
 use Rattle.ptp_base.specs.declared.port.PortState.TheVariants.{Uncalibrated, Slave}
+use Rattle.ptp_profile.specs.declared.roles.Edge.{Edge}
 use Rattle.ptp_profile.specs.declared.roles.Edge.TheVariants.{Port, Follow}
 use Rattle.ptp_profile.specs.Machine.{is_slave, is_following}
 use Rattle.ptp_profile.specs.Roles.{AtMostOneFollows, port_on, slave_clock, edge_by, edge_at, edges_of}
@@ -174,3 +175,15 @@ pub edge_at-nobody : (clocks d : ℕ) (parent : PortId) (states : List PortState
     → count_by is_following states ≡ 0 → edge_at (edges_of clocks parent states port_clocks) d ≡ None
 edge_at-nobody clocks d parent states port_clocks none = edge_at-none clocks d parent states port_clocks (none_on states port_clocks d 1 none)
     (none_slave states port_clocks none)
+
+map-none : (f : ℕ → Option Edge) → ((c : ℕ) → f c ≡ None) → (clocks : List ℕ) → map f clocks ≡ replicate (length clocks) None
+map-none f none [] = refl
+map-none f none (c ∷ clocks) = rw (none c, map-none f none clocks) refl
+
+-- where nobody follows, no clock has an edge
+pub edges_of-nobody : (clocks : ℕ) (parent : PortId) (states : List PortState) (port_clocks : List ℕ)
+    → count_by is_following states ≡ 0 → edges_of clocks parent states port_clocks ≡ replicate clocks None
+edges_of-nobody clocks parent states port_clocks none =
+    let edge = λ (c : ℕ). edge_by parent (port_on c states port_clocks) (slave_clock states port_clocks) in
+    map-none edge (λ c. rw (none_on states port_clocks c 1 none, none_slave states port_clocks none) refl) (range_with_len 0 clocks)
+    ∙ ap (λ n. replicate n None) (length-range_with_len 0 clocks)

@@ -4,7 +4,7 @@ use Rattle.std.proofs.lemmas.Int.{ints}
 use Rattle.std.proofs.lemmas.List.Elements.{All-cons}
 use Rattle.std.proofs.lemmas.Bool.Decides.{nat_tests}
 use Rattle.std.specs.Prelude.{neg_ℤ, int_lt, ◌||◌, All}
-use Rattle.model_clock.specs.Clock.{IsWithin}
+use Rattle.ptp_base.specs.Floor.{IsWithin}
 use Rattle.ptp_profile.specs.declared.timing.Action.{Action}
 use Rattle.ptp_profile.specs.declared.timing.Action.TheVariants.{Unlocked, Jump, Locked}
 use Rattle.ptp_profile.specs.declared.timing.ServoConf.{ServoConf}

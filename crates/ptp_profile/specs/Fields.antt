@@ -133,18 +133,6 @@ id_numbered n = find (λ id. id_number id == n) MANAGEMENT_IDS
 
 -- ---- how a field's octets are printed (own)
 
--- portState, with its number (8.2.15.3.1)
-abbrev pub state_number : PortState → ℕ
-state_number Initializing = 1
-state_number Faulty = 2
-state_number Disabled = 3
-state_number Listening = 4
-state_number PreMaster = 5
-state_number Master = 6
-state_number Passive = 7
-state_number Uncalibrated = 8
-state_number Slave = 9
-
 -- the state of a number from 1 to 9
 abbrev pub state_numbered : ℕ → PortState
 state_numbered n =

@@ -3,6 +3,7 @@
 use Rattle.std.specs.Prelude.{ℕ, ◌+◌, Bool, ◌==◌, ◌&&◌, nat_lt, nat_le, if◌then◌else◌, List, [], ◌∷◌, length, count_by, filter, filter_map, find, fold, option_map, Option, Some, None}
 use Rattle.std.specs.declared.cmp.Ordering.{Ordering}
 use Rattle.std.specs.declared.cmp.Ordering.TheVariants.{Less, Equal, Greater}
+use Rattle.ptp_base.specs.declared.limits.TheConstants.{SENDERS_MAX, STEPS_END}
 use Rattle.ptp_base.specs.declared.identity.PortId.{PortId}
 use Rattle.ptp_base.specs.declared.announcement.Announcement.{Announcement}
 use Rattle.ptp_profile.specs.declared.foreign.KeptAnnounce.{KeptAnnounce}
@@ -73,16 +74,16 @@ erbest w m kept = winner (qualified w m kept)
 abbrev pub ebest : List (Option Announcement) → Option Announcement
 ebest bests = winner (filter_map (λ best. best) bests)
 
--- a sender has none in the window, while 16 others have one (own)
+-- a sender has none in the window, while as many others have one as may (own)
 abbrev pub is_crowded : ℕ → ℕ → List KeptAnnounce → PortId → Bool
-is_crowded w m kept sender = (count_from w m sender kept == 0) && nat_le 16 (length (present w m kept))
+is_crowded w m kept sender = (count_from w m sender kept == 0) && nat_le SENDERS_MAX (length (present w m kept))
 
 -- what becomes of an Announce that is heard at m: the first of own, far, alternate and crowded that holds, else it is kept
 -- (9.3.2.5; crowded is own)
 abbrev pub hearing_of : ℕ → ℕ → List KeptAnnounce → Announcement → Heard
 hearing_of w m kept a =
     if a.sender.clock.id == a.receiver.clock.id then Own
-    else if nat_le 255 a.steps then Far
+    else if nat_le STEPS_END a.steps then Far
     else if a.alternate then Alternate
     else if is_crowded w m kept a.sender then Crowded
     else Kept

@@ -14,10 +14,10 @@ abbrev pub message_by : ℕ → PortId → ℕ → ℕ → ℤ → ℤ → Body 
 message_by domain sender flags seq correction interval body =
     record { domain = domain; flags = flags; correction = correction; sender = sender; seq = seq; log_interval = interval; body = body }
 
--- an Announce says what the data sets say (9.5.8)
+-- an Announce says what the data sets say; of the flags the low six are those of the time properties (9.5.8, 13.3.2.8)
 abbrev pub announce_by : ℕ → Master → Port → Message
 announce_by domain master p =
-    message_by domain p.id master.time.flags (p.announces % 65536) (pos 0) p.conf.log_announce
+    message_by domain p.id (master.time.flags % 64) (p.announces % 65536) (pos 0) p.conf.log_announce
     (Announce (pos 0) (record { grandmaster = master.grandmaster; quality = master.quality; steps = master.steps; utc_offset = master.time.utc_offset; source = master.time.source }))
 
 -- a Sync says by the flag twoStep that its Follow_Up has the time (9.5.9)

@@ -25,7 +25,8 @@ use Rattle.ptp_profile.specs.declared.management.TheConstants.{MANAGEMENT_IDS}
 use Rattle.ptp_profile.specs.DataSets.{Master}
 use Rattle.ptp_profile.specs.Naming.{◌<>◌, port_text}
 use Rattle.ptp_profile.specs.Management.{managed_octets, managed_read}
-use Rattle.ptp_profile.specs.Fields.{id_number, id_name, id_fields, id_numbered, width_of, fields_octets, fields_lines, state_number}
+use Rattle.ptp_profile.specs.Fields.{id_number, id_name, id_fields, id_numbered, width_of, fields_octets, fields_lines}
+use Rattle.ptp_profile.specs.Machine.{state_number}
 
 -- ---- what a text asks: `GET|SET|COMMAND NAME [TARGET]`, words parted by one space (own)
 

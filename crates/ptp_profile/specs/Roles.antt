@@ -8,6 +8,7 @@ use Rattle.ptp_profile.specs.declared.roles.Edge.TheVariants.{Port, Follow}
 use Rattle.ptp_profile.specs.declared.roles.Lead.{Lead}
 use Rattle.ptp_profile.specs.declared.roles.Notice.{Notice}
 use Rattle.ptp_profile.specs.declared.roles.RoleOrder.{RoleOrder}
+use Rattle.ptp_profile.specs.declared.roles.Stamp.{Stamp}
 use Rattle.ptp_profile.specs.Identity.{is_same_port}
 use Rattle.ptp_profile.specs.Machine.{is_following, is_slave}
 
@@ -113,11 +114,6 @@ grants gener olds news = grants_from gener 0 olds news
 -- the orders of a generation: all revokes, then all grants
 abbrev pub orders_of : ℕ → List (Option Edge) → List (Option Edge) → List RoleOrder
 orders_of gener olds news = revokes gener olds news ++ grants gener olds news
-
--- a generation and a controller
-pub record Stamp : Type 0 where
-  pub gener : ℕ
-  pub ctrl : ℕ
 
 -- the stamp of a clock before its first order
 abbrev pub no_stamp : Stamp

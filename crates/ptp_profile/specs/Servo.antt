@@ -2,7 +2,7 @@
 -- drifts in ppb times 65,536. The lists have the newest sample first.
 use Rattle.std.specs.Prelude.{ℕ, ℤ, pos, ◌*◌, ◌+ℤ◌, ◌-ℤ◌, ◌*ℤ◌, neg_ℤ, nat_abs, int_lt, Bool, false, not, ◌==◌, ◌&&◌, ◌||◌, nat_lt, if◌then◌else◌, ⊤, List, [], ◌∷◌, take_while}
 use Rattle.ptp_base.specs.Floor.{floor_of}
-use Rattle.model_clock.specs.Clock.{IsWithin}
+use Rattle.ptp_base.specs.Floor.{IsWithin}
 use Rattle.ptp_profile.specs.declared.timing.Action.{Action}
 use Rattle.ptp_profile.specs.declared.timing.Action.TheVariants.{Unlocked, Jump, Locked}
 use Rattle.ptp_profile.specs.declared.timing.ServoConf.{ServoConf}

@@ -1,6 +1,7 @@
 -- Pairs of Sync and Follow_Up, delays, their mean, and offsets. Times are in ns, corrections, delays and offsets in ns times 65,536.
 -- The lists have the newest first.
 use Rattle.std.specs.Prelude.{ℕ, ℤ, pos, ◌+ℤ◌, ◌-ℤ◌, ◌*ℤ◌, int_le, ◌-◌, ◌/◌, ◌%◌, ◌==◌, ◌&&◌, if◌then◌else◌, List, [], ◌∷◌, length, take, slice_index_or, Option, Some, None, is_none}
+use Rattle.std.specs.Option.{option_or}
 use Rattle.ptp_base.specs.Floor.{floor_of}
 use Rattle.ptp_base.specs.declared.identity.PortId.{PortId}
 use Rattle.ptp_base.specs.declared.triple.Triple.{Triple}
@@ -42,15 +43,10 @@ given (Follow_up seq precise c) [] = None
 given (Follow_up seq precise c) (former ∷ before) =
     if is_none (given former before) then joined former (Follow_up seq precise c) else None
 
--- the first of two that is there
-abbrev or_else : Option Triple → Option Triple → Option Triple
-or_else (Some t) other = Some t
-or_else None other = other
-
 -- the last that the pieces gave
 abbrev pub last_triple : List Piece → Option Triple
 last_triple [] = None
-last_triple (piece ∷ before) = or_else (given piece before) (last_triple before)
+last_triple (piece ∷ before) = option_or (given piece before) (last_triple before)
 
 -- ---- delays
 

@@ -1,5 +1,6 @@
 -- The timers of a port, and what each state sets (IEEE 1588-2019, 9.2.6 and 9.5; the moments at which they are set are own).
-use Rattle.std.specs.Prelude.{ℕ, ◌+◌, ◌*◌, nat_lt, if◌then◌else◌, List, [], ◌∷◌, fold, filter_map, option_map, Option, Some, None}
+use Rattle.std.specs.Prelude.{ℕ, ◌+◌, ◌*◌, List, [], ◌∷◌, filter_map, option_map, Option, Some, None}
+use Rattle.ptp_base.specs.Least.{first_least}
 use Rattle.ptp_base.specs.declared.port.PortConf.{PortConf}
 use Rattle.ptp_base.specs.declared.decision.Code.TheVariants.{M3}
 use Rattle.ptp_base.specs.Floor.{interval_of}
@@ -59,14 +60,9 @@ all_timers = AnnounceReceipt ∷ Qualification ∷ AnnounceSend ∷ SyncSend ∷
 abbrev pub set_timer : Timers → Timer → Option (ℕ × Timer)
 set_timer t timer = option_map (λ at. (at, timer)) (timer_at t timer)
 
--- a later one of the list goes first only where its moment is less
-abbrev pub sooner : Option (ℕ × Timer) → ℕ × Timer → Option (ℕ × Timer)
-sooner None later = Some later
-sooner (Some first) later = if nat_lt later.0 first.0 then Some later else Some first
-
 -- the timer that is due first: the least moment, and at one moment the first in the order of all timers
 abbrev pub due_of : Timers → Option (ℕ × Timer)
-due_of t = fold sooner None (filter_map (set_timer t) all_timers)
+due_of t = first_least (λ (due : ℕ × Timer). due.0) (filter_map (set_timer t) all_timers)
 
 -- LISTENING and PASSIVE from moment m on: announce receipt alone
 abbrev pub waiting_timers : PortConf → ℕ → Timers

@@ -37,7 +37,7 @@ pub use role_laws::{
     orders_leave_forests, orders_leave_parts, roles_change_sides, stamps_have_the_controllers,
     the_same_edges_are_equal, two_logs_are_lawful,
 };
-pub use roles::{Edge, Lead, Notice, RoleOrder};
+pub use roles::{Edge, Lead, Notice, RoleOrder, Stamp};
 pub use seats::{Held, Log, LogEntries, LogEntry, Logs, Reading, Receipt, Refused};
 pub use timing::{Action, Measure, ServoConf};
 pub use timing_laws::{

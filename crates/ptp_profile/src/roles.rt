@@ -35,6 +35,14 @@ pub struct RoleOrder {
     pub ctrl: u8,
 }
 
+/// Under which order a clock is held: the generation and the controller of the order.
+#[derive(Clone, Copy, Debug, PartialEq, Eq)]
+pub struct Stamp {
+    pub gener: u32,
+    /// As the order has it: 0 for nobody.
+    pub ctrl: u8,
+}
+
 /// What a follower is told to copy: the generation of the last order of its clock, and the source.
 #[derive(Clone, Copy, Debug, PartialEq, Eq)]
 pub struct Lead {
