@@ -1,5 +1,6 @@
-ghost use Rattle.std.specs.Prelude.{◌≡◌, ◌≢◌, ◌<◌, pos, IsSomeAnd};
+ghost use Rattle.std.specs.Prelude.{◌≡◌, ◌≢◌, ◌<◌, pos, IfSome};
 ghost use Rattle.std.specs.Option.{option_copied};
+ghost use Rattle.ptp_base.specs.declared.limits.TheConstants.{STEPS_END};
 ghost use Rattle.ptp_profile.specs.DataSets.{applied, master_of, own_master};
 ghost use Rattle.data_sets.specs.Masters.{master_in, announced_by, own_port, with_master};
 
@@ -49,7 +50,7 @@ fn own_port(own: &Announcement) -> PortId
 
 impl DataSets {
     /// The data sets of a clock that follows nobody: the own values, no steps, offset and delay 0.
-    /// Takes no memory.
+    /// Does not allocate.
     pub fn new(own: Announcement, domain: u8, local_time: TimeProps, ports: PortSets) -> DataSets
         ensures { result ≡ record {
           own = own;
@@ -93,7 +94,7 @@ impl DataSets {
 
     /// S1: the clock follows the sender of an announcement (IEEE 1588-2019, table 33).
     fn follow(&mut self, best: &Announcement)
-        requires { best.now.steps < 255 }
+        requires { best.now.steps < STEPS_END }
         ensures { self.new ≡ with_master self.old (master_of best.now) }
     {
         self.steps = best.steps + 1;
@@ -106,10 +107,10 @@ impl DataSets {
     /// Applies the code of a port, with the best announcement of all ports (IEEE 1588-2019, 9.3.5,
     /// tables 30 to 33). M1 and M2 set the parent to port 0 of this clock, grandmaster and quality
     /// to the own ones, the steps to 0 and the time to `local_time`. S1 takes parent, grandmaster,
-    /// quality and time from `best`, and one step more. The other codes change nothing. At S1 there
-    /// is a `best`, of fewer than 255 steps. Takes no memory.
+    /// quality and time from `best`, and one step more; without a `best` it changes nothing, as the
+    /// other codes do. At S1 a `best` is of fewer than `STEPS_END` steps. Does not allocate.
     pub fn apply(&mut self, code: Code, best: Option<&Announcement>)
-        requires near { code ≡ Code.S1 → IsSomeAnd (option_copied best) (λ a. a.steps < 255) }
+        requires near { code ≡ Code.S1 → IfSome (option_copied best) (λ a. a.steps < STEPS_END) }
         ensures master { master_in self.new ≡ applied (announced_by self.old) (option_copied best.entry) (master_in self.old) code }
         ensures rest { self.new ≡ with_master self.old (master_in self.new) }
         ensures same { code ≢ Code.M1 → code ≢ Code.M2 → code ≢ Code.S1 → self.new ≡ self.old }
@@ -117,8 +118,7 @@ impl DataSets {
         match (code, best) {
             (Code::M1 | Code::M2, _) => self.follow_nobody(),
             (Code::S1, Some(best)) => self.follow(best),
-            (Code::S1, None) => unreachable!(),
-            (Code::Stay | Code::M3 | Code::P1 | Code::P2, _) => {}
+            (Code::S1, None) | (Code::Stay | Code::M3 | Code::P1 | Code::P2, _) => {}
         }
     }
 }

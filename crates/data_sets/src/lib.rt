@@ -6,6 +6,7 @@ mod port_set;
 
 pub use data_sets::DataSets;
 pub use port_set::{PortSet, PortSets};
+pub use ptp_base::Code;
 
 #[cfg(test)]
 mod tests;

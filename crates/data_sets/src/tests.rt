@@ -1,7 +1,7 @@
 ghost use Rattle.std.specs.Prelude.{◌≡◌};
 
 use crate::*;
-use ptp_base::{Announcement, ClockId, Code, PortId, PortState, Quality, TimeProps};
+use ptp_base::{Announcement, ClockId, PortId, PortState, Quality, TimeProps};
 use std::alloc::Global;
 
 const OWN: ClockId = ClockId {
@@ -173,6 +173,8 @@ fn steps_go_to_255(rt: HostRuntime) {
     let mut d = alone(rt.alloc());
     let farthest = better(254);
     d.apply(Code::S1, Some(&farthest));
+    assert_eq!(rt; d.steps, 255);
+    d.apply(Code::S1, None);
     assert_eq!(rt; d.steps, 255);
     d.apply(Code::M2, None);
     assert_eq!(rt; fields(&d), OWN_FIELDS);

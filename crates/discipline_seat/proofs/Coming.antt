@@ -3,20 +3,20 @@ use Rattle.std.proofs.Common.{◌≡◌, ◌≢◌, ℕ, zero, suc, ◌+◌, ◌
 use Rattle.std.specs.Prelude.{not, ◌&&◌, Contains, IfErr, Result, Ok, Err}
 use Rattle.std.proofs.lemmas.Bool.{false≢true, eqb-true, leb-true}
 use Rattle.std.proofs.lemmas.Bool.Decides.{eqb_tells}
+use Rattle.ptp_base.specs.declared.limits.TheConstants.{ORDERS_MAX, ROWS_MAX}
 use Rattle.ptp_profile.specs.declared.seats.Held.{Held}
 use Rattle.ptp_profile.specs.declared.seats.LogEntry.{LogEntry}
 use Rattle.ptp_profile.specs.declared.seats.LogEntry.TheVariants.{Order, Change}
 use Rattle.ptp_profile.specs.declared.seats.Receipt.{Receipt}
 use Rattle.ptp_profile.specs.declared.seats.Refused.{Refused}
 use Rattle.ptp_profile.specs.declared.seats.Refused.TheVariants.{Superseded, Spent}
-use Rattle.ptp_profile.specs.Logs.{HasOrder, IsSuperseded, log_after, stamp_after}
+use Rattle.ptp_profile.specs.Logs.{HasOrder, IsSuperseded, log_after, stamp_after, exchange_answer, order_count, MayFollow, IsRefusal}
 use Rattle.discipline_seat.specs.Inside.{HasCome, Rises}
-use Rattle.discipline_seat.specs.Seats.{answer_of, order_count, Follows, IsRefusal}
 
 pub HasCome-none : (rows : ℕ) → HasCome rows []
 HasCome-none rows = record { rises = tt; orders = omega arith; long = omega arith }
 
-pub HasCome-ordered : (rows gener ctrl : ℕ) (log : List LogEntry) → HasCome rows log → Follows (stamp_after log) gener → order_count log < 262142
+pub HasCome-ordered : (rows gener ctrl : ℕ) (log : List LogEntry) → HasCome rows log → MayFollow (stamp_after log) gener → order_count log < ORDERS_MAX
     → HasCome rows (Order gener ctrl ∷ log)
 HasCome-ordered rows gener ctrl log come follows few =
     let long : length log ≤ rows + order_count log = come.long in
@@ -27,7 +27,7 @@ pub HasCome-changed : (rows gener ctrl tick : ℕ) (step freq : ℤ) (log : List
 HasCome-changed rows gener ctrl tick step freq log come below = record { rises = come.rises; orders = come.orders; long = omega arith }
 
 -- a log's numbers fit
-pub length-come : (rows : ℕ) (log : List LogEntry) → HasCome rows log → rows ≤ 262143 → length log < 4294967295
+pub length-come : (rows : ℕ) (log : List LogEntry) → HasCome rows log → rows ≤ ROWS_MAX → length log < 4294967295
 length-come rows log come few = let long = come.long in let orders = come.orders in omega arith
 
 -- what an order of the log says of the stamp in force: it is that order's, or a newer one
@@ -38,7 +38,7 @@ contains_cases : (entry x : LogEntry) (log : List LogEntry) (k : ℕ) → k < le
 contains_cases entry x log zero lt is = inl is
 contains_cases entry x log (suc k) lt is = inr (k, omega arith, is)
 
-newer_step : (gener ctrl g c : ℕ) (log : List LogEntry) → ctrl ≢ 0 → Follows (stamp_after log) g → IsNewer gener ctrl log → gener < g
+newer_step : (gener ctrl g c : ℕ) (log : List LogEntry) → ctrl ≢ 0 → MayFollow (stamp_after log) g → IsNewer gener ctrl log → gener < g
 newer_step gener ctrl g c log some follows (inl newer) = let after : (stamp_after log).gener ≤ g = follows.0 in omega arith
 newer_step gener ctrl g c log some follows (inr same) =
     let after : (stamp_after log).gener < g = follows.1 (λ none. some (sym same.1 ∙ none)) in let gener_is : (stamp_after log).gener ≡ gener = same.0 in omega arith
@@ -88,7 +88,7 @@ refusal_by rows held log (inr same) true true false ea eb ec = tt
 
 -- a refusal says why
 pub refusal-of : (rows : ℕ) (held : Held) (log : List LogEntry) → held.ctrl ≢ 0 → Rises log → HasOrder log held.gener held.ctrl
-    → IfErr (answer_of rows held log) (IsRefusal log held rows)
+    → IfErr (exchange_answer rows held log) (IsRefusal log held rows)
 refusal-of rows held log some rises has =
     refusal_by rows held log (newer-from_order held.gener held.ctrl log some rises has)
     (eqb (stamp_after log).gener held.gener) (eqb (stamp_after log).ctrl held.ctrl) (leb rows (length log)) refl refl refl

@@ -4,19 +4,21 @@ use Rattle.std.specs.Prelude.{All, IfErr, Result, Err, ◌≢◌}
 use Rattle.std.proofs.lemmas.Bool.Decides.{eqb_tells}
 use Rattle.std.proofs.lemmas.List.{map-set, set-get_or, get_or-map, get_or-set_same, get_or-set_other, length-set}
 use Rattle.std.proofs.lemmas.List.Elements.{All-nil, All-cons, All-set}
+use Rattle.ptp_base.specs.declared.limits.TheConstants.{CLOCKS_MAX, ROWS_MAX}
 use Rattle.model_clock.specs.declared.state.ClockState.{ClockState}
 use Rattle.ptp_base.specs.Room.{Reserved}
+use Rattle.ptp_profile.specs.declared.roles.Stamp.{Stamp}
 use Rattle.ptp_profile.specs.declared.seats.Log.{Log}
 use Rattle.ptp_profile.specs.declared.seats.LogEntry.{LogEntry}
 use Rattle.ptp_profile.specs.declared.seats.LogEntry.TheVariants.{Change}
 use Rattle.ptp_profile.specs.declared.seats.Held.{Held}
 use Rattle.ptp_profile.specs.declared.seats.Receipt.{Receipt}
 use Rattle.ptp_profile.specs.declared.seats.Refused.{Refused}
-use Rattle.ptp_profile.specs.Logs.{stamp_after, HasOrder}
+use Rattle.ptp_profile.specs.Logs.{stamp_after, HasOrder, exchange_answer, logs_from, IsRefusal}
 use Rattle.discipline_seat.proofs.Reversing.{reverse_push}
 use Rattle.discipline_seat.specs.Inside.{HasCome, IsTable, Line, logs_of, openings_of, Rises}
 use Rattle.discipline_seat.proofs.Coming.{HasCome-none, refusal-of}
-use Rattle.discipline_seat.specs.Seats.{answer_of, log_of, logs_from, opened, IsRefusal, Seats, with_entry}
+use Rattle.discipline_seat.specs.Seats.{log_of, opened, Seats, with_entry}
 
 abbrev pub line_of : ClockState → List LogEntry → ℕ → Line
 line_of opening log room = record { opening = opening; log = log; room = room }
@@ -78,18 +80,16 @@ IsTable-with rows spare lines places i line table room come = record {
 }
 
 -- a change under the stamp in force
-pub changed-line : (line : Line) (opening : ClockState) (items next : List LogEntry) (room gener ctrl tick : ℕ) (step freq : ℤ)
+pub changed-line : (line : Line) (opening : ClockState) (items next : List LogEntry) (room : ℕ) (stamp : Stamp) (tick : ℕ) (step freq : ℤ)
     → record { opening = opening; log = reverse items; room = room } ≡ line
-    → next ≡ items ++ Change gener ctrl tick step freq ∷ []
-    → gener ≡ (stamp_after (reverse items)).gener → ctrl ≡ (stamp_after (reverse items)).ctrl
+    → next ≡ items ++ Change stamp.gener stamp.ctrl tick step freq ∷ [] → stamp ≡ stamp_after (reverse items)
     → line_of opening (reverse next) (room - 1)
     ≡ line_of line.opening (Change (stamp_after line.log).gener (stamp_after line.log).ctrl tick step freq ∷ line.log) (line.room - 1)
-changed-line line opening items next room gener ctrl tick step freq view is gener_is ctrl_is =
+changed-line line opening items next room stamp tick step freq view is stamp_is =
     subst (λ (l : Line). line_of opening (reverse next) (room - 1) ≡ line_of l.opening (Change (stamp_after l.log).gener (stamp_after l.log).ctrl tick step freq ∷ l.log) (l.room - 1)) view
     (ap (λ (log : List LogEntry). line_of opening log (room - 1))
-    (ap reverse is ∙ reverse_push items (Change gener ctrl tick step freq)
-    ∙ ap (λ (g : ℕ). Change g ctrl tick step freq ∷ reverse items) gener_is
-    ∙ ap (λ (c : ℕ). Change (stamp_after (reverse items)).gener c tick step freq ∷ reverse items) ctrl_is))
+    (ap reverse is ∙ reverse_push items (Change stamp.gener stamp.ctrl tick step freq)
+    ∙ ap (λ (s : Stamp). Change s.gener s.ctrl tick step freq ∷ reverse items) stamp_is))
 
 -- one line more of the logs that part
 pub logs_from-more : (clock : ℕ) (lines : List Line) (line : Line)
@@ -131,7 +131,7 @@ line-there rows spare lines i t view lt =
 
 -- a refusal says why, as it is seen
 pub refused-seen : (rows spare : ℕ) (lines : List Line) (i : ℕ) (x : Line) (held : Held) (refused : Refused) (t : Seats) → i < length lines → x ≡ get_or lines i x
-    → All (λ (l : Line). HasCome rows l.log) lines → held.ctrl ≢ 0 → Err refused ≡ answer_of rows held x.log → seen rows spare lines ≡ t
+    → All (λ (l : Line). HasCome rows l.log) lines → held.ctrl ≢ 0 → Err refused ≡ exchange_answer rows held x.log → seen rows spare lines ≡ t
     → HasOrder (log_of t i) held.gener held.ctrl → IsRefusal (log_of t i) held t.rows refused
 refused-seen rows spare lines i x held refused t lt at all some answer view =
     let log_is : get_or (logs_of lines) i [] ≡ (get_or lines i x).log = log-seen lines i x lt in
@@ -139,7 +139,7 @@ refused-seen rows spare lines i x held refused t lt at all some answer view =
     let rises : Rises (get_or (logs_of lines) i []) = subst Rises (sym log_is) come.rises in
     let same : x.log ≡ get_or (logs_of lines) i [] = ap (λ (l : Line). l.log) at ∙ sym log_is in
     subst (λ (u : Seats). HasOrder (log_of u i) held.gener held.ctrl → IsRefusal (log_of u i) held u.rows refused) view
-    (λ has. subst (λ (r : Result Receipt Refused). IfErr r (IsRefusal (get_or (logs_of lines) i []) held rows)) (sym (answer ∙ ap (answer_of rows held) same))
+    (λ has. subst (λ (r : Result Receipt Refused). IfErr r (IsRefusal (get_or (logs_of lines) i []) held rows)) (sym (answer ∙ ap (exchange_answer rows held) same))
     (refusal-of rows held (get_or (logs_of lines) i []) some rises has))
 
 -- a line that has more room
@@ -207,7 +207,7 @@ seen-opened rows clocks lines is =
     ∙ ap (λ (openings : List ClockState). seen_as rows 0 openings (logs_of (map new_line clocks))) (openings-opened clocks)
     ∙ ap (λ (logs : List (List LogEntry)). seen_as rows 0 clocks logs) (logs-opened clocks)
 
-pub IsTable-opened : (rows : ℕ) (clocks : List ClockState) (lines : List Line) (parted : Reserved Log) → rows ≤ 262143 → length clocks ≤ 16
+pub IsTable-opened : (rows : ℕ) (clocks : List ClockState) (lines : List Line) (parted : Reserved Log) → rows ≤ ROWS_MAX → length clocks ≤ CLOCKS_MAX
     → lines ≡ map new_line clocks → parted ≡ record { items = []; spare = length clocks } → IsTable rows 0 lines parted
 IsTable-opened rows clocks lines parted few small is places =
     subst (λ (ls : List Line). IsTable rows 0 ls parted) (sym is)

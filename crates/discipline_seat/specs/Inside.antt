@@ -1,15 +1,16 @@
 -- What the table of the seats keeps.
 use Rattle.std.specs.Prelude.{ℕ, ◌+◌, ◌≤◌, ◌≡◌, List, [], ◌∷◌, length, map, All}
+use Rattle.ptp_base.specs.declared.limits.TheConstants.{CLOCKS_MAX, ORDERS_MAX, ROWS_MAX}
 use Rattle.model_clock.specs.declared.state.ClockState.{ClockState}
 use Rattle.model_clock.specs.Clock.{IsClock}
 use Rattle.ptp_base.specs.Room.{Reserved}
+use Rattle.ptp_profile.specs.declared.roles.Stamp.{Stamp}
 use Rattle.ptp_profile.specs.declared.seats.Log.{Log}
 use Rattle.ptp_profile.specs.declared.seats.LogEntry.{LogEntry}
 use Rattle.ptp_profile.specs.declared.seats.LogEntry.TheVariants.{Order, Change}
-use Rattle.ptp_profile.specs.Logs.{clock_after, stamp_after}
-use Rattle.discipline_seat.specs.Seats.{Follows, order_count}
+use Rattle.ptp_profile.specs.Logs.{clock_after, stamp_after, MayFollow, order_count}
 
--- one clock: its opening, its log, the newest entry first, and how many more entries it takes without memory
+-- one clock: its opening, its log, the newest entry first, and how many more entries it takes without allocating
 pub record Line : Type 0 where
   pub opening : ClockState
   pub log : List LogEntry
@@ -22,28 +23,27 @@ abbrev pub logs_of : List Line → List (List LogEntry)
 logs_of lines = map (λ (line : Line). line.log) lines
 
 -- the state and the stamp that are kept are those after the log
-pub record IsKept (opening state : ClockState) (gener ctrl : ℕ) (log : List LogEntry) : Type 0 where
+pub record IsKept (opening state : ClockState) (stamp : Stamp) (log : List LogEntry) : Type 0 where
   pub state_is : state ≡ clock_after opening log
-  pub gener_is : gener ≡ (stamp_after log).gener
-  pub ctrl_is : ctrl ≡ (stamp_after log).ctrl
+  pub stamp_is : stamp ≡ stamp_after log
   pub clock : IsClock state
 
 -- the generations of a log's orders rise
 abbrev pub Rises : List LogEntry → Type 0
 Rises [] = Unit {0}
-Rises (Order gener ctrl ∷ log) = Follows (stamp_after log) gener × Rises log
+Rises (Order gener ctrl ∷ log) = MayFollow (stamp_after log) gener × Rises log
 Rises (Change gener ctrl tick step freq ∷ log) = Rises log
 
 -- a log that came by orders and changes
 pub record HasCome (rows : ℕ) (log : List LogEntry) : Type 0 where
   pub rises : Rises log
-  pub orders : order_count log ≤ 262142
+  pub orders : order_count log ≤ ORDERS_MAX
   pub long : length log ≤ rows + order_count log
 
 -- the lines of a table
 pub record IsTable (rows spare : ℕ) (lines : List Line) (parted : Reserved Log) : Type 0 where
-  pub rows_few : rows ≤ 262143
-  pub clocks_few : length lines ≤ 16
+  pub rows_few : rows ≤ ROWS_MAX
+  pub clocks_few : length lines ≤ CLOCKS_MAX
   pub rooms : All (λ (line : Line). spare ≤ line.room) lines
   pub come : All (λ (line : Line). HasCome rows line.log) lines
   pub empty : parted.items ≡ []

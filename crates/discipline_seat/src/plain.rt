@@ -1,10 +1,12 @@
 ghost use Rattle.std.specs.Prelude.{◌≡◌, ℕ, [], map, ◌≢◌, ◌+◌, ◌-◌, ◌<◌, ◌≤◌, All, length, reverse, IfErr, IfOk, OnErr, OnOk};
-ghost use Rattle.model_clock.specs.Clock.{IsClock, IsWithin};
+ghost use Rattle.ptp_base.specs.declared.limits.TheConstants.{CLOCKS_MAX, GENERATION_MAX, ORDERS_MAX, ROWS_MAX};
+ghost use Rattle.model_clock.specs.Clock.{IsClock};
+ghost use Rattle.ptp_base.specs.Floor.{IsWithin};
 ghost use Rattle.ptp_profile.specs.declared.seats.LogEntry.TheVariants.{Order};
 ghost use Rattle.ptp_profile.specs.Forest.{IsForest};
-ghost use Rattle.ptp_profile.specs.Logs.{HasOrder, change_of};
+ghost use Rattle.ptp_profile.specs.Logs.{HasOrder, change_of, exchange_answer, logs_from, order_count, MayFollow, IsController, IsRefusal};
 ghost use Rattle.discipline_seat.specs.Inside.{Line, logs_of, openings_of};
-ghost use Rattle.discipline_seat.specs.Seats.{answer_of, ctrls_with, log_of, logs_from, opened, order_count, reading_of, stamp_in, with_entry, Follows, IsCtrl, IsRefusal, Seats};
+ghost use Rattle.discipline_seat.specs.Seats.{ctrls_with, log_of, opened, reading_of, stamp_in, with_entry, Seats};
 
 use crate::seat::Seat;
 use model_clock::ClockState;
@@ -14,19 +16,18 @@ use std::alloc::Global;
 use std::marker::Model;
 
 /// The clocks of a run, each with its log, for one thread. Contracts see the openings, the logs, the
-/// newest entry first, and how many more entries are taken without memory.
+/// newest entry first, and how many more entries are taken without allocating.
 #[derive(Drop)]
 pub struct PlainSeats {
     rows: u32,
     spare: usize,
     seats: Vec<Seat>,
-    // Places for the logs, in which they part without memory.
+    // Places for the logs, in which they part without allocating.
     places: Room<Log>,
 }
 
 impl Model for PlainSeats {
     ghost use Rattle.discipline_seat.specs.Inside.{IsTable, logs_of, openings_of};
-    ghost use Rattle.discipline_seat.specs.Inside.{Line, logs_of, openings_of};
     ghost use Rattle.discipline_seat.specs.Seats.{Seats};
 
     ghost Value = { Seats };
@@ -54,14 +55,14 @@ fn opened(alloc: Global, clocks: &[ClockState]) -> Result<Vec<Seat>, NoMemory>
 }
 
 impl PlainSeats {
-    /// Seats of 1 to 16 clocks in these states, of which nothing was ordered or changed. No change
-    /// makes a log longer than `rows`, which is from 1 to 262,143.
+    /// Seats of 1 to `CLOCKS_MAX` clocks in these states, of which nothing was ordered or changed. No
+    /// change makes a log longer than `rows`, which is from 1 to `ROWS_MAX`.
     pub fn new(alloc: Global, clocks: &[ClockState], rows: u32) -> Result<PlainSeats, NoMemory>
         requires some { 1 ≤ length clocks.now }
-        requires few { length clocks.now ≤ 16 }
+        requires few { length clocks.now ≤ CLOCKS_MAX }
         requires clocks { All IsClock clocks.now }
         requires row { 1 ≤ rows }
-        requires rows { rows ≤ 262143 }
+        requires rows { rows ≤ ROWS_MAX }
         ensures { IfOk result (λ seats. seats ≡ opened rows clocks.now) }
     {
         Ok(PlainSeats {
@@ -87,8 +88,8 @@ impl PlainSeats {
     }
 
     /// The state of a clock after all entries of its log, with the stamp then in force. The state's
-    /// tick is at most `TICK_MAX` and its frequency within `FREQ_MAX`. The clock is there. Takes no
-    /// memory.
+    /// tick is at most `TICK_MAX` and its frequency within `FREQ_MAX`. The clock is there. Does
+    /// not allocate.
     pub fn read(&self, clock: u8) -> Reading
         requires there { clock < length self.now.logs }
         ensures reading { result ≡ reading_of self.now clock }
@@ -98,7 +99,7 @@ impl PlainSeats {
         seat.read()
     }
 
-    /// The entries of a clock's log, the oldest first. The clock is there. Takes no memory.
+    /// The entries of a clock's log, the oldest first. The clock is there. Does not allocate.
     pub fn log(&self, clock: u8) -> &[LogEntry]
         requires there { clock < length self.now.logs }
         ensures { result.now ≡ reverse (log_of self.now clock) }
@@ -107,19 +108,20 @@ impl PlainSeats {
         seat.entries()
     }
 
-    /// Gives a clock to a controller: nobody, by 0, a port from 1 to 32, or the clock's own follower
-    /// that copies clock s, by 128 + s. `gener`, at most 262,143, is no older than the clock's
-    /// generation, and newer where somebody holds the clock; the controllers that all clocks then have
-    /// are a forest; the clock has had fewer than 262,142 orders. The clock is there, and `spare` is 1
-    /// or more. The receipt has the entry's number, which is the length of the log. Takes no memory.
+    /// Gives a clock to a controller: nobody, by 0, a port from 1 to `CONTROLLER_PORTS`, or the clock's
+    /// own follower that copies clock s, by `FOLLOWER_BASE` + s. `gener`, at most `GENERATION_MAX`, is
+    /// no older than the clock's generation, and newer where somebody holds the clock; the controllers
+    /// that all clocks then have are a forest; the clock has had fewer than `ORDERS_MAX` orders. The
+    /// clock is there, and `spare` is 1 or more. The receipt has the entry's number, which is the
+    /// length of the log. Does not allocate.
     pub fn order(&mut self, clock: u8, gener: u32, ctrl: u8) -> Receipt
         requires there { clock < length self.old.logs }
         requires spare { 1 ≤ self.old.spare }
-        requires ctrl { IsCtrl (length self.old.logs) ctrl }
-        requires gener { gener ≤ 262143 }
-        requires follows { Follows (stamp_in self.old clock) gener }
+        requires ctrl { IsController (length self.old.logs) ctrl }
+        requires gener { gener ≤ GENERATION_MAX }
+        requires follows { MayFollow (stamp_in self.old clock) gener }
         requires forest { IsForest (ctrls_with self.old clock ctrl) }
-        requires few { order_count (log_of self.old clock) < 262142 }
+        requires few { order_count (log_of self.old clock) < ORDERS_MAX }
         ensures log { self.new ≡ with_entry self.old clock (Order gener ctrl) }
         ensures number { result.number ≡ length (log_of self.new clock) }
     {
@@ -133,7 +135,7 @@ impl PlainSeats {
     /// in ppb times 65,536, at `tick`. Superseded where another stamp is in force, and then its
     /// generation is newer; else Spent where the log has `rows` entries or more. A refusal leaves all
     /// as before. The clock is there, the held stamp has a controller and was ordered of the clock, and
-    /// `spare` is 1 or more. Takes no memory.
+    /// `spare` is 1 or more. Does not allocate.
     pub fn adjust(
         &mut self,
         held: Held,
@@ -148,7 +150,7 @@ impl PlainSeats {
         requires tick { tick ≤ TICK_MAX }
         requires step { IsWithin TIME_MAX step }
         requires freq { IsWithin FREQ_MAX freq }
-        ensures answer { result ≡ answer_of self.old.rows held (log_of self.old held.clock) }
+        ensures answer { result ≡ exchange_answer self.old.rows held (log_of self.old held.clock) }
         ensures taken { OnOk result (self.new ≡ with_entry self.old held.clock (change_of held tick step freq)) }
         ensures number { IfOk result (λ receipt. receipt.number ≡ length (log_of self.new held.clock)) }
         ensures refused { IfErr result (IsRefusal (log_of self.old held.clock) held self.old.rows) }
@@ -165,7 +167,7 @@ impl PlainSeats {
         }
     }
 
-    /// The logs, by rising clocks, the oldest entry first. Takes no memory.
+    /// The logs, by rising clocks, the oldest entry first. Does not allocate.
     pub fn part(self) -> Logs
         ensures { result ≡ logs_from 0 self.openings self.logs }
     {

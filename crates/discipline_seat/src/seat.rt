@@ -1,13 +1,13 @@
 ghost use Rattle.std.specs.Prelude.{◌≡◌, ◌≢◌, ◌+◌, ◌-◌, ◌<◌, ◌≤◌, ◌∷◌, [], length, reverse, IfOk, OnOk, OnErr, vec_len, vec_capacity};
-ghost use Rattle.model_clock.specs.Clock.{IsClock, IsWithin};
+ghost use Rattle.model_clock.specs.Clock.{IsClock};
+ghost use Rattle.ptp_base.specs.Floor.{IsWithin};
 ghost use Rattle.ptp_profile.specs.declared.seats.LogEntry.TheVariants.{Change, Order};
-ghost use Rattle.ptp_profile.specs.Logs.{change_of, clock_after, stamp_after};
+ghost use Rattle.ptp_profile.specs.Logs.{change_of, stamp_after, exchange_answer, whole_reading};
 ghost use Rattle.discipline_seat.specs.Inside.{Line};
-ghost use Rattle.discipline_seat.specs.Seats.{answer_of};
 
 use model_clock::ClockState;
 use ptp_base::{FREQ_MAX, Items, NoMemory, TICK_MAX, TIME_MAX};
-use ptp_profile::{Held, Log, LogEntry, Reading, Receipt, Refused};
+use ptp_profile::{Held, Log, LogEntry, Reading, Receipt, Refused, Stamp};
 use std::alloc::Global;
 use std::marker::Model;
 
@@ -16,8 +16,7 @@ use std::marker::Model;
 pub(crate) struct Seat {
     opening: ClockState,
     state: ClockState,
-    gener: u32,
-    ctrl: u8,
+    stamp: Stamp,
     entries: Vec<LogEntry>,
     room: usize,
 }
@@ -31,7 +30,7 @@ impl Model for Seat {
     ghost view = { λ s. record { opening = s.opening; log = reverse s.entries.items; room = s.room } };
 
     ghost invariant = { λ s. record {
-      kept : IsKept s.opening s.state s.gener s.ctrl (reverse s.entries.items);
+      kept : IsKept s.opening s.state s.stamp (reverse s.entries.items);
       fits : vec_len s.entries + s.room ≤ vec_capacity s.entries;
     } };
 }
@@ -45,8 +44,7 @@ impl Seat {
         Seat {
             opening,
             state: opening,
-            gener: 0,
-            ctrl: 0,
+            stamp: Stamp { gener: 0, ctrl: 0 },
             entries: Vec::new(alloc),
             room: 0,
         }
@@ -75,18 +73,13 @@ impl Seat {
     /// The state after the log, with the stamp in force.
     pub(crate) fn read(&self) -> Reading
         requires { length self.now.log < 4294967296 }
-        ensures reading { result ≡ record {
-          number = length self.now.log;
-          gener = (stamp_after self.now.log).gener;
-          ctrl = (stamp_after self.now.log).ctrl;
-          state = clock_after self.now.opening self.now.log;
-        } }
+        ensures reading { result ≡ whole_reading self.now.opening self.now.log }
         ensures state { IsClock result.state }
     {
         Reading {
             number: self.entries.len() as u32,
-            gener: self.gener,
-            ctrl: self.ctrl,
+            gener: self.stamp.gener,
+            ctrl: self.stamp.ctrl,
             state: self.state,
         }
     }
@@ -99,8 +92,7 @@ impl Seat {
         ensures number { result ≡ record { number = length self.old.log + 1 } }
     {
         self.entries.push_reserved(LogEntry::Order { gener, ctrl });
-        self.gener = gener;
-        self.ctrl = ctrl;
+        self.stamp = Stamp { gener, ctrl };
         self.room -= 1;
         Receipt {
             number: self.entries.len() as u32,
@@ -118,8 +110,8 @@ impl Seat {
         ensures number { result ≡ record { number = length self.old.log + 1 } }
     {
         self.entries.push_reserved(LogEntry::Change {
-            gener: self.gener,
-            ctrl: self.ctrl,
+            gener: self.stamp.gener,
+            ctrl: self.stamp.ctrl,
             tick,
             step,
             freq,
@@ -145,15 +137,15 @@ impl Seat {
         requires tick { tick ≤ TICK_MAX }
         requires step { IsWithin TIME_MAX step }
         requires freq { IsWithin FREQ_MAX freq }
-        ensures answer { result ≡ answer_of rows held.now self.old.log }
+        ensures answer { result ≡ exchange_answer rows held.now self.old.log }
         ensures taken { OnOk result (self.new ≡ record { opening = self.old.opening; log = change_of held.now tick step freq ∷ self.old.log; room = self.old.room - 1 }) }
         ensures number { IfOk result (λ receipt. receipt ≡ record { number = length self.old.log + 1 }) }
         ensures same { OnErr result (self.new ≡ self.old) }
     {
         let at = self.entries.len() as u32;
-        if self.gener != held.gener || self.ctrl != held.ctrl {
+        if self.stamp.gener != held.gener || self.stamp.ctrl != held.ctrl {
             return Err(Refused::Superseded {
-                newer: self.gener,
+                newer: self.stamp.gener,
                 at,
             });
         }
@@ -163,7 +155,7 @@ impl Seat {
         Ok(self.change(tick, step, freq))
     }
 
-    /// The log, which takes no memory.
+    /// The log. Does not allocate.
     pub(crate) fn into_log(self, clock: u8) -> Log
         ensures { result ≡ record { clock = clock; opening = self.opening; entries = reverse self.log } }
     {

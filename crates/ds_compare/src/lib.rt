@@ -5,7 +5,7 @@ mod compare_masters;
 mod compare_paths;
 mod comparison;
 
-pub use comparison::compare;
+pub use comparison::{better, compare, wins};
 pub use ptp_profile::Order;
 
 #[cfg(test)]

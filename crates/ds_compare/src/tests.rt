@@ -141,4 +141,19 @@ fn three_may_win_in_a_circle(rt: HostRuntime) {
     assert_eq!(rt; compare(&a, &b), Order::ABetter);
     assert_eq!(rt; compare(&b, &c), Order::ABetter);
     assert_eq!(rt; compare(&a, &c), Order::BBetter);
+    // So the winner of a pass depends on its order.
+    assert_eq!(rt; better(better(better(None, &a), &b), &c), Some(c));
+    assert_eq!(rt; better(better(better(None, &c), &b), &a), Some(a));
+}
+
+#[test]
+fn the_former_stays_unless_the_later_wins(rt: HostRuntime) {
+    let here = port(5, 1);
+    let low = path(3, port(1, 1), here);
+    let high = path(3, port(2, 1), here);
+    assert_eq!(rt; better(Some(high), &low), Some(low));
+    assert_eq!(rt; better(Some(low), &high), Some(low));
+    // They are the same by all that is compared, and differ in the clock that hears.
+    let elsewhere = path(3, port(1, 1), port(4, 1));
+    assert_eq!(rt; better(Some(low), &elsewhere), Some(low));
 }

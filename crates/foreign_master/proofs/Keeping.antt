@@ -7,6 +7,7 @@ use Rattle.std.proofs.lemmas.List.Folds.{find-set, find_past}
 use Rattle.std.proofs.lemmas.List.Quantifiers.{all_pairs_push}
 use Rattle.std.proofs.lemmas.List.Elements.{All-head, All-tail}
 use Rattle.std.proofs.lemmas.Bool.{cases_eq, cases_Bool, cases_lt, false_from_ne_true, both_ways}
+use Rattle.ptp_base.specs.declared.limits.TheConstants.{SENDERS_MAX}
 use Rattle.ptp_base.specs.declared.identity.PortId.{PortId}
 use Rattle.ptp_profile.specs.declared.foreign.KeptAnnounce.{KeptAnnounce}
 use Rattle.ptp_profile.specs.Identity.{is_same_port}
@@ -58,7 +59,7 @@ Keeps-put w xs kept h i d keeps reached first l =
     let here : is_of h.said.sender (get_or xs i d) ≡ true = subst (λ (j : ℕ). is_of h.said.sender (get_or xs j d) ≡ true) (sym first) (passes_at_first (is_of h.said.sender) xs d (subst (λ (j : ℕ). j < length xs) first l)) in
     let own = others xs i d h.said.sender keeps.apart l here in
     record {
-      few = subst (λ n. n ≤ 16) (sym (length-set xs i y)) keeps.few;
+      few = subst (λ n. n ≤ SENDERS_MAX) (sym (length-set xs i y)) keeps.few;
       apart = AreApart-set xs i y l keeps.apart own;
       tells = λ t m later.
           let at_most = All-head (λ (g : KeptAnnounce). g.at ≤ m) h kept later in
@@ -78,7 +79,7 @@ Keeps-put w xs kept h i d keeps reached first l =
           (cases_Bool (is_from t h));
     }
 
-pub Keeps-push : (w : ℕ) (xs : List Place) (kept : List KeptAnnounce) (h : KeptAnnounce) → Keeps w xs kept → IsReached h.at kept → find (is_of h.said.sender) xs ≡ None → length xs < 16 → Keeps w (xs ++ next_place h None ∷ []) (h ∷ kept)
+pub Keeps-push : (w : ℕ) (xs : List Place) (kept : List KeptAnnounce) (h : KeptAnnounce) → Keeps w xs kept → IsReached h.at kept → find (is_of h.said.sender) xs ≡ None → length xs < SENDERS_MAX → Keeps w (xs ++ next_place h None ∷ []) (h ∷ kept)
 Keeps-push w xs kept h keeps reached none l =
     let y = next_place h None in
     record {
@@ -104,7 +105,7 @@ pub Keeps-reuse : (w : ℕ) (xs : List Place) (kept : List KeptAnnounce) (h : Ke
 Keeps-reuse w xs kept h i d keeps reached none l left =
     let y = next_place h None in
     record {
-      few = subst (λ n. n ≤ 16) (sym (length-set xs i y)) keeps.few;
+      few = subst (λ n. n ≤ SENDERS_MAX) (sym (length-set xs i y)) keeps.few;
       apart = AreApart-set xs i y l keeps.apart (λ k e m ne. none_found (is_of h.said.sender) xs none k e m);
       tells = λ t m later.
           let at_most = All-head (λ (g : KeptAnnounce). g.at ≤ m) h kept later in

@@ -12,6 +12,7 @@ use Rattle.std.proofs.lemmas.Bool.{cases_Bool, cases_eq, and_parts, and_from, fa
 use Rattle.std.proofs.lemmas.Option.{same_Some}
 use Rattle.std.proofs.lemmas.List.{get_or_default}
 use Rattle.std.proofs.lemmas.List.Sums.{sum_by-cons}
+use Rattle.ptp_base.specs.declared.limits.TheConstants.{STEPS_END}
 use Rattle.ptp_base.specs.declared.identity.PortId.{PortId}
 use Rattle.ptp_base.specs.declared.announcement.Announcement.{Announcement}
 use Rattle.ptp_profile.specs.declared.foreign.KeptAnnounce.{KeptAnnounce}
@@ -265,13 +266,13 @@ pass_falls w m xs last p least =
     (ap (λ (y : Place). is_lt (port_cmp s y.said.sender)) (least.here p) ∙ not_lt_itself s)
     (ap (λ (y : Place). is_above last y.said.sender) (least.here p) ∙ ab)
 
--- ---- what wins is of fewer than 255 steps, as all are
+-- ---- what wins is of fewer than STEPS_END steps, as all are
 abbrev pub HasFewSteps : Announcement → Type 0
-HasFewSteps a = a.steps < 255
+HasFewSteps a = a.steps < STEPS_END
 
-pub near_better : (o : Option Announcement) (a : Announcement) → IfSome o HasFewSteps → a.steps < 255 → IfSome (better o a) HasFewSteps
+pub near_better : (o : Option Announcement) (a : Announcement) → IfSome o HasFewSteps → a.steps < STEPS_END → IfSome (better o a) HasFewSteps
 near_better None a near few = few
 near_better (Some b) a near few = elim (wins a b) as (λ t. IfSome (cond t (Some a) (Some b)) HasFewSteps) [ true ↦ few | false ↦ near ]
 
-pub near_least : (w m : ℕ) (xs : List Place) (former : Option PortId) (p : Place) → AreNear xs → IsLeast w m former xs (length xs) (Some p) → p.said.steps < 255
-near_least w m xs former p near least = subst (λ (q : Place). q.said.steps < 255) (least.here p) (near least.at p least.within)
+pub near_least : (w m : ℕ) (xs : List Place) (former : Option PortId) (p : Place) → AreNear xs → IsLeast w m former xs (length xs) (Some p) → p.said.steps < STEPS_END
+near_least w m xs former p near least = subst (λ (q : Place). q.said.steps < STEPS_END) (least.here p) (near least.at p least.within)

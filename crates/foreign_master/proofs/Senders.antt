@@ -15,6 +15,7 @@ use Rattle.std.proofs.lemmas.List.{length-map}
 use Rattle.std.proofs.lemmas.List.Sums.{length-filter, count_by-le-length, sum_by-cons}
 use Rattle.std.proofs.lemmas.Bool.{cases_Bool, leb-true, and_right, and_left, le-leb, lt-leb, eqb-true, eq-eqb, false_from_ne_true, and_from}
 use Rattle.std.proofs.lemmas.Bool.Decides.{nat_tests}
+use Rattle.ptp_base.specs.declared.limits.TheConstants.{SENDERS_MAX}
 use Rattle.ptp_base.specs.declared.identity.PortId.{PortId}
 use Rattle.ptp_profile.specs.declared.foreign.KeptAnnounce.{KeptAnnounce}
 use Rattle.ptp_profile.specs.Identity.{is_same_port, port_cmp}
@@ -227,10 +228,10 @@ count_all p (x ∷ xs) all =
     let z : cond {A = ℕ} (p x) 1 0 ≡ 1 = ap (λ b. cond {A = ℕ} b 1 0) (all 0 x (omega arith)) in
     omega (arith, e, z, count_all p xs (λ k d l. all (suc k) d (omega arith)))
 
--- fewer than 16 places are in the window
-pub not_crowded_few : (w m : ℕ) (kept : List KeptAnnounce) (xs : List Place) (s : PortId) → Keeps w xs kept → IsReached m kept → count_by (is_present w m) xs < 16 → is_crowded w m kept s ≡ false
+-- fewer than SENDERS_MAX places are in the window
+pub not_crowded_few : (w m : ℕ) (kept : List KeptAnnounce) (xs : List Place) (s : PortId) → Keeps w xs kept → IsReached m kept → count_by (is_present w m) xs < SENDERS_MAX → is_crowded w m kept s ≡ false
 not_crowded_few w m kept xs s keeps reached few =
-    and_right _ _ (lt-leb 16 _ (subst (λ n. n < 16) (sym (length-present w m kept xs keeps reached)) few))
+    and_right _ _ (lt-leb SENDERS_MAX _ (subst (λ n. n < SENDERS_MAX) (sym (length-present w m kept xs keeps reached)) few))
 
 pub not_crowded_own : (w m : ℕ) (kept : List KeptAnnounce) (xs : List Place) (s : PortId) (i : ℕ) (d : Place) → Keeps w xs kept → IsReached m kept → i < length xs → place_of s xs ≡ Some (get_or xs i d) → is_crowded w m kept s ≡ false
 not_crowded_own w m kept xs s i d keeps reached l found =
@@ -245,8 +246,8 @@ not_crowded_own w m kept xs s i d keeps reached l found =
     not_crowded_few w m kept xs s keeps reached (let lt = count_lt (is_present w m) xs i d l left in let few = keeps.few in omega arith))
     (cases_Bool (is_present w m (get_or xs i d)))
 
-pub crowded_full : (w m : ℕ) (kept : List KeptAnnounce) (xs : List Place) (s : PortId) → Keeps w xs kept → IsReached m kept → place_of s xs ≡ None → 16 ≤ length xs → ((k : ℕ) (d : Place) → k < length xs → is_present w m (get_or xs k d) ≡ true) → is_crowded w m kept s ≡ true
+pub crowded_full : (w m : ℕ) (kept : List KeptAnnounce) (xs : List Place) (s : PortId) → Keeps w xs kept → IsReached m kept → place_of s xs ≡ None → SENDERS_MAX ≤ length xs → ((k : ℕ) (d : Place) → k < length xs → is_present w m (get_or xs k d) ≡ true) → is_crowded w m kept s ≡ true
 crowded_full w m kept xs s keeps reached none many all =
     let n = length-present w m kept xs keeps reached in
     let c = count_all (is_present w m) xs all in
-    and_from _ _ (eq-eqb (count_from w m s kept) 0 (subst (Tells w m kept s) none (keeps.tells s m reached))) (le-leb 16 _ (omega (arith, n, c)))
+    and_from _ _ (eq-eqb (count_from w m s kept) 0 (subst (Tells w m kept s) none (keeps.tells s m reached))) (le-leb SENDERS_MAX _ (omega (arith, n, c)))

@@ -5,6 +5,7 @@ use Rattle.std.proofs.lemmas.List.Sums.{count_by-le-length}
 use Rattle.std.proofs.lemmas.List.{length_push}
 use Rattle.std.proofs.lemmas.List.Elements.{All-push}
 use Rattle.std.proofs.lemmas.Bool.{not-true, not-false}
+use Rattle.ptp_base.specs.declared.limits.TheConstants.{SENDERS_MAX, STEPS_END}
 use Rattle.ptp_base.specs.declared.identity.PortId.{PortId}
 use Rattle.ptp_base.specs.Room.{Reserved}
 use Rattle.ptp_profile.specs.declared.foreign.KeptAnnounce.{KeptAnnounce}
@@ -32,7 +33,7 @@ own_not_crowded w at kept s (x ∷ ys) n first keeps reached =
     sym (ap not (not_crowded_own w at kept (x ∷ ys) s n x keeps reached l (found_there (is_of s) (x ∷ ys) n x first)))
 
 pub room_not_crowded : (w at : ℕ) (kept : List KeptAnnounce) (s : PortId) (ys : List Place) →
-    length ys < 16 → Keeps w ys kept → IsReached at kept → true ≡ not (is_crowded w at kept s)
+    length ys < SENDERS_MAX → Keeps w ys kept → IsReached at kept → true ≡ not (is_crowded w at kept s)
 room_not_crowded w at kept s ys few keeps reached =
     sym (ap not (not_crowded_few w at kept ys s keeps reached (omega (arith, count_by-le-length (is_present w at) ys))))
 
@@ -50,7 +51,7 @@ left_not_crowded w at kept s (x ∷ ys) n first keeps reached =
     sym (ap not (not_crowded_few w at kept (x ∷ ys) s keeps reached (omega (arith, lt, few))))
 
 pub full_crowded : (w at : ℕ) (kept : List KeptAnnounce) (s : PortId) (ys : List Place) →
-    None ≡ position (λ (p : Place). not (is_present w at p)) ys → 16 ≤ length ys → None ≡ position (is_of s) ys →
+    None ≡ position (λ (p : Place). not (is_present w at p)) ys → SENDERS_MAX ≤ length ys → None ≡ position (is_of s) ys →
     Keeps w ys kept → IsReached at kept → false ≡ not (is_crowded w at kept s)
 full_crowded w at kept s ys left many absent keeps reached =
     sym (ap not (crowded_full w at kept ys s keeps reached (found_none (is_of s) ys absent) many
@@ -66,7 +67,7 @@ put_taken w xs ys new kept h n d first keeps reached same is =
     (Keeps-put w ys kept h n d keeps reached there.0 there.1)
 
 pub push_taken : (w : ℕ) (xs ys new : List Place) (kept : List KeptAnnounce) (h : KeptAnnounce) →
-    None ≡ position (is_of h.said.sender) ys → length ys < 16 → Keeps w ys kept → IsReached h.at kept → ys ≡ xs →
+    None ≡ position (is_of h.said.sender) ys → length ys < SENDERS_MAX → Keeps w ys kept → IsReached h.at kept → ys ≡ xs →
     new ≡ xs ++ next_place h None ∷ [] → Keeps w new (h ∷ kept)
 push_taken w xs ys new kept h absent l keeps reached same is =
     subst (λ (z : List Place). Keeps w z (h ∷ kept)) (sym (is ∙ ap (λ (z : List Place). z ++ next_place h None ∷ []) (sym same)))
@@ -83,11 +84,11 @@ left_taken w xs (x ∷ ys) new kept h n first absent keeps reached same is =
 
 -- one more place leaves the places sound
 pub sound_push : (xs : List Place) (spare : ℕ) (p : Place) (room : Reserved Place) →
-    IsSound xs spare → p.said.steps < 255 → room ≡ record { items = xs ++ p ∷ []; spare = spare - 1 } → IsSound room.items room.spare
+    IsSound xs spare → p.said.steps < STEPS_END → room ≡ record { items = xs ++ p ∷ []; spare = spare - 1 } → IsSound room.items room.spare
 sound_push xs spare p room sound few is =
     let reserved = sound.reserved in
     subst (λ (r : Reserved Place). IsSound r.items r.spare) (sym is)
     (record {
       reserved = omega (arith, length_push xs p);
-      near = All-push (λ (q : Place). q.said.steps < 255) xs p sound.near few;
+      near = All-push (λ (q : Place). q.said.steps < STEPS_END) xs p sound.near few;
     })

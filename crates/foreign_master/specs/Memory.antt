@@ -1,5 +1,6 @@
 -- What contracts see of Records.
 use Rattle.std.specs.Prelude.{ℕ, ◌+◌, ◌≤◌, List, length}
+use Rattle.ptp_base.specs.declared.limits.TheConstants.{SENDERS_MAX}
 use Rattle.ptp_base.specs.declared.identity.PortId.{PortId}
 use Rattle.ptp_profile.specs.declared.foreign.KeptAnnounce.{KeptAnnounce}
 use Rattle.foreign_master.specs.declared.place.Place.{Place}
@@ -15,7 +16,7 @@ pub record Memory : Type 0 where
 abbrev pub Remembers : Memory → List KeptAnnounce → Type 0
 Remembers memory kept = Keeps memory.window memory.places kept
 
--- 16 places are reserved, and each Announce in them is of fewer than 255 steps
+-- a place is reserved for each of as many senders as may count, and each Announce in them is of fewer than STEPS_END steps
 pub record IsSound (places : List Place) (spare : ℕ) : Type 0 where
-  pub reserved : 16 ≤ length places + spare
+  pub reserved : SENDERS_MAX ≤ length places + spare
   pub near : AreNear places

@@ -1,5 +1,6 @@
 -- Places, and what they say of the Announces that were kept.
 use Rattle.std.specs.Prelude.{◌≡◌, ℕ, ◌+◌, ◌<◌, ◌≤◌, Bool, false, nat_lt, nat_le, List, find, All, AllPairs, Option, Some, None, option_map, length}
+use Rattle.ptp_base.specs.declared.limits.TheConstants.{SENDERS_MAX, STEPS_END}
 use Rattle.ptp_base.specs.declared.identity.PortId.{PortId}
 use Rattle.ptp_profile.specs.declared.foreign.KeptAnnounce.{KeptAnnounce}
 use Rattle.ptp_profile.specs.Identity.{is_same_port}
@@ -50,12 +51,12 @@ next_place h o = record { said = h.said; last = h.at; before = option_map (λ (p
 abbrev pub AreApart : List Place → Type 0
 AreApart places = AllPairs (λ (p q : Place). is_same_port p.said.sender q.said.sender ≡ false) places
 
--- each Announce is of fewer than 255 steps
+-- each Announce is of fewer than STEPS_END steps
 abbrev pub AreNear : List Place → Type 0
-AreNear places = All (λ (p : Place). p.said.steps < 255) places
+AreNear places = All (λ (p : Place). p.said.steps < STEPS_END) places
 
 -- the places tell all that counts of the kept Announces, at each moment that is still to come
 pub record Keeps (w : ℕ) (places : List Place) (kept : List KeptAnnounce) : Type 0 where
-  pub few : length places ≤ 16
+  pub few : length places ≤ SENDERS_MAX
   pub apart : AreApart places
   pub tells : (sender : PortId) (m : ℕ) → IsReached m kept → Tells w m kept sender (place_of sender places)

@@ -1,12 +1,13 @@
 ghost use Rattle.std.specs.Prelude.{◌≡◌, ◌<◌, length, List, IfSome};
+ghost use Rattle.ptp_base.specs.declared.limits.TheConstants.{STEPS_END};
 ghost use Rattle.ptp_profile.specs.declared.foreign.KeptAnnounce.{KeptAnnounce};
-ghost use Rattle.ptp_profile.specs.Foreign.{better, erbest};
+ghost use Rattle.ptp_profile.specs.Foreign.{erbest};
 ghost use Rattle.foreign_master.specs.Places.{Keeps, IsReached, AreNear};
 ghost use Rattle.foreign_master.specs.Passing.{is_above, nearer, IsLeast};
 
 use crate::place::Place;
 use crate::window::is_within;
-use ds_compare::{Order, compare};
+use ds_compare::better;
 use ptp_base::{Announcement, PortId};
 
 /// Whether the sender is above a former one, if there is one.
@@ -56,31 +57,18 @@ fn find_next(places: &[Place], window: u64, at: u64, former: Option<PortId>) -> 
     nearest
 }
 
-/// The winner so far, or the later one where it is better, or better by topology (own).
-fn better(best: Option<Announcement>, later: Announcement) -> Option<Announcement>
-    ensures { result ≡ better best later }
-{
-    match best {
-        None => Some(later),
-        Some(winner) => match compare(&later, &winner) {
-            Order::ABetter | Order::ATopo => Some(later),
-            Order::BBetter | Order::BTopo | Order::Same => Some(winner),
-        },
-    }
-}
-
 /// The winner of one pass over the qualified places, in rising sender identity
 /// (IEEE 1588-2019, 9.3.2; the order of the pass is own).
 pub(crate) fn winner(places: &[Place], window: u64, at: u64) -> Option<Announcement>
     requires { AreNear places.now }
     ensures best { (kept : List KeptAnnounce) → Keeps window places.now kept → IsReached at kept
         → result ≡ erbest window at kept }
-    ensures near { IfSome result (λ a. a.steps < 255) }
+    ensures near { IfSome result (λ a. a.steps < STEPS_END) }
 {
     let mut best = None;
     let mut former = None;
     while let Some(place) = find_next(places, window, at, former) {
-        best = better(best, place.said);
+        best = better(best, &place.said);
         former = Some(place.said.sender);
     }
     best

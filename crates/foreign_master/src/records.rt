@@ -1,4 +1,5 @@
 ghost use Rattle.std.specs.Prelude.{◌≡◌, ◌≢◌, ◌<◌, not, List, [], ◌∷◌, IfOk, IfSome, false, true};
+ghost use Rattle.ptp_base.specs.declared.limits.TheConstants.{STEPS_END};
 ghost use Rattle.ptp_profile.specs.declared.foreign.KeptAnnounce.{KeptAnnounce};
 ghost use Rattle.ptp_profile.specs.Foreign.{hearing_of, erbest, is_crowded};
 ghost use Rattle.foreign_master.specs.Places.{IsReached};
@@ -7,14 +8,14 @@ ghost use Rattle.foreign_master.specs.Memory.{Memory, Remembers};
 use crate::pass::winner;
 use crate::place::Place;
 use crate::search::{find_left, find_sender};
-use ptp_base::{Announcement, NoMemory, PortId, Room};
+use ptp_base::{Announcement, NoMemory, PortId, Room, SENDERS_MAX, STEPS_END};
 use ptp_profile::Heard;
 use std::alloc::Global;
 use std::marker::Model;
 
-/// What one port keeps of the Announces that it hears: at most 16 places, each with the latest of one
-/// sender, which a sender without a place takes once another's has left the window
-/// (IEEE 1588-2019, 9.3.2.4; that there are 16 is own). Only `new` takes memory.
+/// What one port keeps of the Announces that it hears: at most `SENDERS_MAX` places, each with the
+/// latest of one sender, which a sender without a place takes once another's has left the window
+/// (IEEE 1588-2019, 9.3.2.4; how many there are is own). Only `new` allocates.
 ///
 /// Contracts tell what it keeps by the whole list of the Announces that were kept since the last
 /// reset, the newest first. Whoever calls must not let moments fall: of a moment below that of an
@@ -48,14 +49,14 @@ impl Records {
         Ok(Records {
             receiver,
             window,
-            places: Room::with(alloc, 16)?,
+            places: Room::with(alloc, SENDERS_MAX)?,
         })
     }
 
     /// Takes an Announce that came at `at`, in ticks, unless it is crowded out. A known sender keeps
     /// its place, so that its Announce before this one counts on.
     fn take(&mut self, a: Announcement, at: u64) -> bool
-        requires { a.steps < 255 }
+        requires { a.steps < STEPS_END }
         ensures same { result ≡ false → self.new ≡ self.old }
         ensures crowded { (kept : List KeptAnnounce) → Remembers self.old kept → IsReached at kept
             → result ≡ not (is_crowded self.old.window at kept a.sender) }
@@ -82,7 +83,7 @@ impl Records {
             last: at,
             before: None,
         };
-        if places.len() < 16 {
+        if places.len() < SENDERS_MAX {
             self.places.push(place);
             return true;
         }
@@ -110,7 +111,7 @@ impl Records {
         if a.sender.clock == self.receiver.clock {
             return Heard::Own;
         }
-        if a.steps >= 255 {
+        if a.steps >= STEPS_END {
             return Heard::Far;
         }
         if a.alternate {
@@ -124,13 +125,20 @@ impl Records {
     }
 
     /// The best announcement at `at`, in ticks, or None where no sender is qualified: Erbest
-    /// (IEEE 1588-2019, 9.3.2; the order of the pass is own). It is of fewer than 255 steps.
+    /// (IEEE 1588-2019, 9.3.2; the order of the pass is own). It is of fewer than `STEPS_END` steps.
     pub fn best(&self, at: u64) -> Option<Announcement>
         ensures best { (kept : List KeptAnnounce) → Remembers self.now kept → IsReached at kept
             → result ≡ erbest self.now.window at kept }
-        ensures near { IfSome result (λ a. a.steps < 255) }
+        ensures near { IfSome result (λ a. a.steps < STEPS_END) }
     {
         winner(self.places.items(), self.window, at)
+    }
+
+    /// The port that hears. Does not allocate.
+    pub fn receiver(&self) -> PortId
+        ensures { result ≡ self.now.receiver }
+    {
+        self.receiver
     }
 
     /// Forgets all that was kept.

@@ -153,6 +153,7 @@ fn calls_one_after_another(rt: HostRuntime) -> Result<(), Fail> {
     ];
     let mut answers = [Answer::Forgot; 6];
     records.run(&calls, &mut answers);
+    assert_eq!(rt; records.receiver(), HERE);
     assert_eq!(rt;
         answers,
         [

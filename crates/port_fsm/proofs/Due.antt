@@ -1,126 +1,90 @@
 -- The timer that is due first, over all timers.
-use Rattle.std.proofs.Common.{◌≡◌, ◌≤◌, ℕ, true, false, cond, List, [], ◌∷◌, Option, Some, None, refl, sym, ap, subst, ◌∙◌, arith, ⊎_elim, ltb-true, ltb-false}
-use Rattle.std.specs.Prelude.{IfSome, nat_lt, fold, filter_map}
+use Rattle.std.proofs.Common.{◌≡◌, ◌≤◌, ℕ, Option, Some, None, refl, sym, ap, subst, ◌∙◌, arith, inl, inr, ◌∷◌, add-one}
+use Rattle.std.specs.Prelude.{◌+◌, ◌<◌, List, length, drop, fold, IfSome, filter_map}
 use Rattle.std.specs.List.{cons_option}
 use Rattle.std.specs.Option.{option_map}
-use Rattle.std.proofs.lemmas.Bool.{cases_Bool}
+use Rattle.std.proofs.Common.{get_or}
+use Rattle.std.proofs.Math.Seq.{drop-cons}
+use Rattle.ptp_base.specs.Least.{lesser}
 use Rattle.ptp_profile.specs.declared.port.Timer.{Timer}
 use Rattle.ptp_profile.specs.declared.port.Timer.TheVariants.{AnnounceReceipt, Qualification, AnnounceSend, SyncSend, DelayRequest}
-use Rattle.ptp_profile.specs.Timers.{Timers, timer_at, all_timers, set_timer, sooner, due_of}
-use Rattle.port_fsm.specs.Due.{sooner_at}
+use Rattle.ptp_profile.specs.Timers.{Timers, timer_at, all_timers, set_timer, due_of}
+use Rattle.ptp_profile.proofs.MemberLemmas.{Has, has_filter_map, filter_map_has}
+use Rattle.port_fsm.proofs.Least.{IsBy, least_is, least_of_all}
 
--- the pass over the timers
-abbrev pub pass : Timers → Option (ℕ × Timer) → List Timer → Option (ℕ × Timer)
-pass t first [] = first
-pass t first (x ∷ xs) = pass t (sooner_at first x (timer_at t x)) xs
+abbrev pub moment : ℕ × Timer → ℕ
+moment due = due.0
 
-abbrev pub passed : Timers → Option (ℕ × Timer)
-passed t = pass t None all_timers
+-- ---- one more timer, which is set or not
+abbrev rest_of : Timers → Option (ℕ × Timer) → List Timer → Option (ℕ × Timer)
+rest_of t first xs = fold (lesser moment) first (filter_map (set_timer t) xs)
 
-one_more : (t : Timers) (first : Option (ℕ × Timer)) (x : Timer) (xs : List Timer)
-    → fold sooner first (filter_map (set_timer t) (x ∷ xs)) ≡ fold sooner (sooner_at first x (timer_at t x)) (filter_map (set_timer t) xs)
-one_more t first x xs =
-    elim (timer_at t x) as (λ o. fold sooner first (cons_option (option_map (λ at. (at, x)) o) (filter_map (set_timer t) xs)) ≡ fold sooner (sooner_at first x o) (filter_map (set_timer t) xs)) [
-      | None ↦ refl
-      | Some at ↦ refl
-    ]
+abbrev after : Option (ℕ × Timer) → Timer → Option ℕ → Option (ℕ × Timer)
+after first x None = first
+after first x (Some at) = lesser moment first (at, x)
 
-pass_is : (t : Timers) (first : Option (ℕ × Timer)) (xs : List Timer) → pass t first xs ≡ fold sooner first (filter_map (set_timer t) xs)
-pass_is t first [] = refl
-pass_is t first (x ∷ xs) = pass_is t (sooner_at first x (timer_at t x)) xs ∙ sym (one_more t first x xs)
+one_more : (first : Option (ℕ × Timer)) (x : Timer) (o : Option ℕ) (dues : List (ℕ × Timer))
+    → fold (lesser moment) first (cons_option (option_map (λ at. (at, x)) o) dues) ≡ fold (lesser moment) (after first x o) dues
+one_more first x None dues = refl
+one_more first x (Some at) dues = refl
 
-pub passed_is_due : (t : Timers) → passed t ≡ due_of t
-passed_is_due t = pass_is t None all_timers
-
--- one timer after another, as the code goes
-pub chained : (t : Timers) (r q a s d : Option ℕ) (to_r to_q to_a to_s to_d : Option (ℕ × Timer))
-    → t ≡ record { receipt = r; qualification = q; announce = a; sync = s; delay = d }
-    → to_r ≡ sooner_at None AnnounceReceipt r
-    → to_q ≡ sooner_at to_r Qualification q
-    → to_a ≡ sooner_at to_q AnnounceSend a
-    → to_s ≡ sooner_at to_a SyncSend s
-    → to_d ≡ sooner_at to_s DelayRequest d
-    → to_d ≡ passed t
-chained t r q a s d to_r to_q to_a to_s to_d is e1 e2 e3 e4 e5 =
-    e5
-    ∙ ap (λ o. sooner_at o DelayRequest d)
-    (e4
-    ∙ ap (λ o. sooner_at o SyncSend s)
-    (e3
-    ∙ ap (λ o. sooner_at o AnnounceSend a)
-    (e2
-    ∙ ap (λ o. sooner_at o Qualification q) e1)))
-    ∙ sym (ap passed is)
+pub timer_more : (t : Timers) (first next all : Option (ℕ × Timer)) (xs : List Timer) (i : ℕ) (d : Timer) (o : Option ℕ)
+    → i < length xs → timer_at t (get_or xs i d) ≡ o → next ≡ after first (get_or xs i d) o
+    → rest_of t first (drop i xs) ≡ all → rest_of t next (drop (i + 1) xs) ≡ all
+timer_more t first next all xs i d o lt is same before =
+    let x = get_or xs i d in
+    let split : drop i xs ≡ x ∷ drop (i + 1) xs = rw add-one (drop-cons xs i d lt) in
+    ap (λ (n : Option (ℕ × Timer)). rest_of t n (drop (i + 1) xs)) (same ∙ sym (ap (after first x) is))
+    ∙ sym (one_more first x (timer_at t x) (filter_map (set_timer t) (drop (i + 1) xs)))
+    ∙ sym (ap (rest_of t first) split) ∙ before
 
 -- ---- it is set for its moment
-abbrev pub IsSetIn : Timers → Option (ℕ × Timer) → Type 0
-IsSetIn t due = IfSome due (λ d. timer_at t d.1 ≡ Some d.0)
+abbrev pub IsSetAt : Timers → ℕ × Timer → Type 0
+IsSetAt t due = timer_at t due.1 ≡ Some due.0
 
-set_after : (t : Timers) (first : Option (ℕ × Timer)) (x : Timer) (o : Option ℕ) → timer_at t x ≡ o → IsSetIn t first → IsSetIn t (sooner_at first x o)
-set_after t first x None e h = h
-set_after t None x (Some at) e h = e
-set_after t (Some f) x (Some at) e h = elim (nat_lt at f.0) as (λ b. IsSetIn t (cond b (Some (at, x)) (Some f))) [ true ↦ e | false ↦ h ]
+is_set : (t : Timers) (x : Timer) (o : Option ℕ) (due : ℕ × Timer) → timer_at t x ≡ o → option_map (λ at. (at, x)) o ≡ Some due → IsSetAt t due
+is_set t x None due e is = cc
+is_set t x (Some at) due e is = cc
 
-pub passed_is_set : (t : Timers) → IsSetIn t (passed t)
-passed_is_set t =
-    set_after t _ DelayRequest t.delay refl
-    (set_after t _ SyncSend t.sync refl
-    (set_after t _ AnnounceSend t.announce refl
-    (set_after t _ Qualification t.qualification refl
-    (set_after t None AnnounceReceipt t.receipt refl tt))))
+pub due_is_set : (t : Timers) → IfSome (due_of t) (IsSetAt t)
+due_is_set t =
+    least_is moment (IsSetAt t) None (filter_map (set_timer t) all_timers) tt
+    (λ due has. let of = has_filter_map (set_timer t) all_timers due has in is_set t of.0 (timer_at t of.0) due refl of.2)
 
--- ---- there is one, of no later moment
-abbrev pub IsBy : ℕ → Option (ℕ × Timer) → Type 0
-IsBy m None = ⊥
-IsBy m (Some d) = d.0 ≤ m
+-- ---- no timer is set for less
+is_one : (x : Timer) → Has all_timers x
+is_one AnnounceReceipt = inl refl
+is_one Qualification = inr (inl refl)
+is_one AnnounceSend = inr (inr (inl refl))
+is_one SyncSend = inr (inr (inr (inl refl)))
+is_one DelayRequest = inr (inr (inr (inr (inl refl))))
 
-by_first : (first : Option (ℕ × Timer)) (x : Timer) (o : Option ℕ) (m : ℕ) → IsBy m first → IsBy m (sooner_at first x o)
-by_first first x None m h = h
-by_first None x (Some at) m h = absurd h
-by_first (Some f) x (Some at) m h =
-    ⊎_elim
-    (λ (e : nat_lt at f.0 ≡ true). subst (λ b. IsBy m (cond b (Some (at, x)) (Some f))) (sym e) (let lt = ltb-true at f.0 e in omega (arith, lt, h)))
-    (λ (e : nat_lt at f.0 ≡ false). subst (λ b. IsBy m (cond b (Some (at, x)) (Some f))) (sym e) h)
-    (cases_Bool (nat_lt at f.0))
+pub due_by : (t : Timers) (x : Timer) (m : ℕ) → timer_at t x ≡ Some m → IsBy moment m (due_of t)
+due_by t x m e =
+    least_of_all moment m None (filter_map (set_timer t) all_timers) (m, x)
+    (filter_map_has (set_timer t) all_timers x (m, x) (is_one x) (ap (option_map (λ at. (at, x))) e)) (omega arith)
 
-some_le : (a m : ℕ) → Some a ≡ Some m → a ≤ m
-some_le a m e =
-    let q : a ≡ m = cc in
-    omega (arith, q)
+abbrev pub IsLeastIn : Timers → ℕ × Timer → Type 0
+IsLeastIn t due = (x : Timer) (m : ℕ) → timer_at t x ≡ Some m → due.0 ≤ m
 
-by_itself : (first : Option (ℕ × Timer)) (x : Timer) (o : Option ℕ) (m : ℕ) → o ≡ Some m → IsBy m (sooner_at first x o)
-by_itself first x None m e = cc
-by_itself None x (Some at) m e = some_le at m e
-by_itself (Some f) x (Some at) m e =
-    ⊎_elim
-    (λ (b : nat_lt at f.0 ≡ true). subst (λ b. IsBy m (cond b (Some (at, x)) (Some f))) (sym b) (some_le at m e))
-    (λ (b : nat_lt at f.0 ≡ false). subst (λ b. IsBy m (cond b (Some (at, x)) (Some f))) (sym b) (let le = some_le at m e in let ge = ltb-false at f.0 b in omega (arith, le, ge)))
-    (cases_Bool (nat_lt at f.0))
+least_by_all : (t : Timers) (o : Option (ℕ × Timer)) → ((x : Timer) (m : ℕ) → timer_at t x ≡ Some m → IsBy moment m o) → IfSome o (IsLeastIn t)
+least_by_all t None h = tt
+least_by_all t (Some due) h = h
 
-pub passed_by : (t : Timers) (x : Timer) (m : ℕ) → timer_at t x ≡ Some m → IsBy m (passed t)
-passed_by t AnnounceReceipt m e =
-    by_first _ DelayRequest t.delay m (by_first _ SyncSend t.sync m (by_first _ AnnounceSend t.announce m (by_first _ Qualification t.qualification m (by_itself None AnnounceReceipt t.receipt m e))))
-passed_by t Qualification m e =
-    by_first _ DelayRequest t.delay m (by_first _ SyncSend t.sync m (by_first _ AnnounceSend t.announce m (by_itself _ Qualification t.qualification m e)))
-passed_by t AnnounceSend m e = by_first _ DelayRequest t.delay m (by_first _ SyncSend t.sync m (by_itself _ AnnounceSend t.announce m e))
-passed_by t SyncSend m e = by_first _ DelayRequest t.delay m (by_itself _ SyncSend t.sync m e)
-passed_by t DelayRequest m e = by_itself _ DelayRequest t.delay m e
+pub due_is_least : (t : Timers) → IfSome (due_of t) (IsLeastIn t)
+due_is_least t = least_by_all t (due_of t) (due_by t)
 
 -- ---- no timer is set
-none_by : (t : Timers) (x : Timer) (o : Option ℕ) → timer_at t x ≡ o → passed t ≡ None → o ≡ None
+none_by : (t : Timers) (x : Timer) (o : Option ℕ) → timer_at t x ≡ o → due_of t ≡ None → o ≡ None
 none_by t x None e none = refl
-none_by t x (Some m) e none = absurd (subst (IsBy m) none (passed_by t x m e))
+none_by t x (Some m) e none = absurd (subst (IsBy moment m) none (due_by t x m e))
 
-pub none_is_set : (t : Timers) → passed t ≡ None → (x : Timer) → timer_at t x ≡ None
+pub none_is_set : (t : Timers) → due_of t ≡ None → (x : Timer) → timer_at t x ≡ None
 none_is_set t none x = none_by t x (timer_at t x) refl none
 
-pub none_is_due : (t : Timers) → ((x : Timer) → timer_at t x ≡ None) → passed t ≡ None
-none_is_due t none =
-    ap (sooner_at _ DelayRequest) (none DelayRequest)
-    ∙ ap (sooner_at _ SyncSend) (none SyncSend)
-    ∙ ap (sooner_at _ AnnounceSend) (none AnnounceSend)
-    ∙ ap (sooner_at _ Qualification) (none Qualification)
-    ∙ ap (sooner_at None AnnounceReceipt) (none AnnounceReceipt)
+none_of : (t : Timers) (o : Option (ℕ × Timer)) → IfSome o (IsSetAt t) → ((x : Timer) → timer_at t x ≡ None) → o ≡ None
+none_of t None is none = refl
+none_of t (Some due) is none = let both = sym is ∙ none due.1 in cc
 
-pub passed_is_least : (t : Timers) → IfSome (passed t) (λ d. (x : Timer) (m : ℕ) → timer_at t x ≡ Some m → d.0 ≤ m)
-passed_is_least t = elim (passed t) as (λ o. ((x : Timer) (m : ℕ) → timer_at t x ≡ Some m → IsBy m o) → IfSome o (λ d. (x : Timer) (m : ℕ) → timer_at t x ≡ Some m → d.0 ≤ m)) [ None ↦ λ h. tt | Some d ↦ λ h. h ] (passed_by t)
+pub none_is_due : (t : Timers) → ((x : Timer) → timer_at t x ≡ None) → due_of t ≡ None
+none_is_due t none = none_of t (due_of t) (due_is_set t) none

@@ -4,7 +4,7 @@ ghost use Rattle.ptp_profile.specs.Machine.{next};
 use ptp_base::{Code, PortState};
 use ptp_profile::PortEvent;
 
-/// FAULTY leads to LISTENING alone, once the fault is cleared.
+/// From FAULTY, which leads to LISTENING alone, once the fault is cleared (IEEE 1588-2019, 9.2.6).
 fn from_faulty(e: PortEvent) -> PortState
     ensures { (new_parent : Bool) → result ≡ next PortState.Faulty e new_parent }
 {
@@ -21,6 +21,8 @@ fn from_faulty(e: PortEvent) -> PortState
     }
 }
 
+/// From LISTENING: a decision of a master's code leads to PRE_MASTER, where it is qualified, and no
+/// Announce in time leads to MASTER at once (IEEE 1588-2019, 9.2.6).
 fn from_listening(e: PortEvent) -> PortState
     ensures { (new_parent : Bool) → result ≡ next PortState.Listening e new_parent }
 {
@@ -38,6 +40,8 @@ fn from_listening(e: PortEvent) -> PortState
     }
 }
 
+/// From PRE_MASTER: it becomes MASTER once it is qualified, and a master's code does not begin this
+/// anew (IEEE 1588-2019, 9.2.6).
 fn from_pre_master(e: PortEvent) -> PortState
     ensures { (new_parent : Bool) → result ≡ next PortState.PreMaster e new_parent }
 {
@@ -54,6 +58,8 @@ fn from_pre_master(e: PortEvent) -> PortState
     }
 }
 
+/// From MASTER, which waits for no Announce: only a fault and a decision of another code end it
+/// (IEEE 1588-2019, 9.2.6).
 fn from_master(e: PortEvent) -> PortState
     ensures { (new_parent : Bool) → result ≡ next PortState.Master e new_parent }
 {
@@ -70,6 +76,7 @@ fn from_master(e: PortEvent) -> PortState
     }
 }
 
+/// From PASSIVE: as from LISTENING, but that its own codes change nothing (IEEE 1588-2019, 9.2.6).
 fn from_passive(e: PortEvent) -> PortState
     ensures { (new_parent : Bool) → result ≡ next PortState.Passive e new_parent }
 {
@@ -86,6 +93,8 @@ fn from_passive(e: PortEvent) -> PortState
     }
 }
 
+/// From UNCALIBRATED: it becomes SLAVE once its clock follows the master that was selected
+/// (IEEE 1588-2019, 9.2.6).
 fn from_uncalibrated(e: PortEvent) -> PortState
     ensures { (new_parent : Bool) → result ≡ next PortState.Uncalibrated e new_parent }
 {
@@ -102,7 +111,8 @@ fn from_uncalibrated(e: PortEvent) -> PortState
     }
 }
 
-/// A slave is calibrated to its parent alone, so a new one makes it UNCALIBRATED.
+/// From SLAVE: it is calibrated to its parent alone, so a new one makes it UNCALIBRATED, as does a
+/// synchronization fault (IEEE 1588-2019, 9.2.6).
 fn from_slave(e: PortEvent, new_parent: bool) -> PortState
     ensures { result ≡ next PortState.Slave e new_parent }
 {
@@ -123,7 +133,7 @@ fn from_slave(e: PortEvent, new_parent: bool) -> PortState
 /// The state of a port after an event (IEEE 1588-2019, 9.2.5, figure 30). `new_parent` says that
 /// the best announcement comes from another sender than the port's parent. No event leads to
 /// INITIALIZING or DISABLED, and none changes them; FAULT_CLEARED leads from FAULTY straight to
-/// LISTENING (own). Takes no memory.
+/// LISTENING (own). Does not allocate.
 pub fn next(s: PortState, e: PortEvent, new_parent: bool) -> PortState
     ensures { result ≡ next s e new_parent }
 {

@@ -1,12 +1,13 @@
 ghost use Rattle.std.specs.Prelude.{◌≡◌, ◌≤◌, ◌↔◌, ℕ, Some, None, IfSome};
+ghost use Rattle.ptp_base.specs.Least.{lesser};
+ghost use Rattle.ptp_profile.specs.declared.port.Timer.{Timer};
 ghost use Rattle.ptp_profile.specs.Timers.{no_timers, timer_at, with_timer, due_of};
-ghost use Rattle.port_fsm.specs.Due.{sooner_at};
 
 use ptp_profile::Timer;
 use std::marker::Model;
 
 /// The timers of a port, each with the moment that it is set for, in ticks (ns), if it is set
-/// (IEEE 1588-2019, 9.2.6 and 9.5). No call takes memory.
+/// (IEEE 1588-2019, 9.2.6 and 9.5). No call allocates.
 #[derive(Clone, Copy, Debug, PartialEq, Eq)]
 pub struct Timers {
     receipt: Option<u64>,
@@ -26,20 +27,22 @@ impl Model for Timers {
     ghost inverse = { λ t. record { receipt = t.receipt; qualification = t.qualification; announce = t.announce; sync = t.sync; delay = t.delay } };
 }
 
-/// The one that is due first, or the later of the order where its moment is less.
-fn sooner(first: Option<(u64, Timer)>, timer: Timer, at: Option<u64>) -> Option<(u64, Timer)>
-    ensures { result ≡ sooner_at first timer at }
+/// All timers, in the order in which they go at one moment (own).
+const ALL: [Timer; 5] = [
+    Timer::AnnounceReceipt,
+    Timer::Qualification,
+    Timer::AnnounceSend,
+    Timer::SyncSend,
+    Timer::DelayRequest,
+];
+
+/// The one that is due first: a later one of the order only where its moment is less.
+fn lesser(first: Option<(u64, Timer)>, later: (u64, Timer)) -> Option<(u64, Timer)>
+    ensures { result ≡ lesser (λ (due : ℕ × Timer). due.0) first later }
 {
-    match (first, at) {
-        (_, None) => first,
-        (None, Some(at)) => Some((at, timer)),
-        (Some(due), Some(at)) => {
-            if at < due.0 {
-                Some((at, timer))
-            } else {
-                Some(due)
-            }
-        }
+    match first {
+        Some(due) if due.0 <= later.0 => Some(due),
+        _ => Some(later),
     }
 }
 
@@ -105,10 +108,12 @@ impl Timers {
         ensures least { IfSome result (λ due. (t : Timer) (at : ℕ) → timer_at self.now t ≡ Some at → due.0 ≤ at) }
         ensures none { result ≡ None ↔ ((t : Timer) → timer_at self.now t ≡ None) }
     {
-        let due = sooner(None, Timer::AnnounceReceipt, self.receipt);
-        let due = sooner(due, Timer::Qualification, self.qualification);
-        let due = sooner(due, Timer::AnnounceSend, self.announce);
-        let due = sooner(due, Timer::SyncSend, self.sync);
-        sooner(due, Timer::DelayRequest, self.delay)
+        let mut due = None;
+        for timer in ALL {
+            if let Some(at) = self.at(timer) {
+                due = lesser(due, (at, timer));
+            }
+        }
+        due
     }
 }

@@ -6,6 +6,7 @@ use Rattle.std.proofs.lemmas.List.{take_more_set}
 use Rattle.std.proofs.lemmas.Grind.{common_steps}
 use Rattle.std.specs.Prelude.{◌==◌, option_map, find}
 use Rattle.std.specs.List.{position_from, zip, range_with_len}
+use Rattle.ptp_base.specs.declared.limits.TheConstants.{CLOCKS_MAX, PORTS_MAX}
 use Rattle.ptp_base.specs.declared.identity.PortId.{PortId}
 use Rattle.ptp_base.specs.declared.port.PortState.{PortState}
 use Rattle.ptp_profile.specs.declared.roles.Edge.{Edge}
@@ -54,7 +55,7 @@ ctrl_by parent (Some p) source ports sources = ports p refl
 ctrl_by parent None (Some c) ports sources = sources c refl
 ctrl_by parent None None ports sources = tt
 
-port_on-below : (clock : ℕ) (states : List PortState) (clocks : List ℕ) → length states ≤ 32 → (q : ℕ) → port_on clock states clocks ≡ Some q → q ≤ 127
+port_on-below : (clock : ℕ) (states : List PortState) (clocks : List ℕ) → length states ≤ PORTS_MAX → (q : ℕ) → port_on clock states clocks ≡ Some q → q ≤ 127
 port_on-below clock states clocks few q is =
     let far : q < 1 + length (zip states clocks) = position_from-below (λ (p : PortState × ℕ). is_following p.0 && (p.1 == clock)) (zip states clocks) 1 q is in
     let short : length (zip states clocks) ≤ length states = length-zip_le states clocks in
@@ -65,7 +66,7 @@ all_made f each [] = All-nil HasCtrlIfAny
 all_made f each (c ∷ cs) = All-cons HasCtrlIfAny (f c) (map f cs) (each c) (all_made f each cs)
 
 -- the controllers of edges fit into octets
-pub HaveCtrls-edges : (clocks bound : ℕ) (parent : PortId) (states : List PortState) (port_clocks : List ℕ) → length states ≤ 32 → bound ≤ 16
+pub HaveCtrls-edges : (clocks bound : ℕ) (parent : PortId) (states : List PortState) (port_clocks : List ℕ) → length states ≤ PORTS_MAX → bound ≤ CLOCKS_MAX
     → All (λ clock. clock < bound) port_clocks → HaveCtrls (edges_of clocks parent states port_clocks)
 HaveCtrls-edges clocks bound parent states port_clocks few small all =
     all_made (λ clock. edge_by parent (port_on clock states port_clocks) (slave_clock states port_clocks))
@@ -76,8 +77,8 @@ HaveCtrls-edges clocks bound parent states port_clocks few small all =
 abbrev pub is_on : ℕ → PortState × ℕ → Bool
 is_on clock p = is_following p.0 && (p.1 == clock)
 
-pub place-small : (clock : ℕ) (states : List PortState) (clocks : List ℕ) (place : ℕ) → length states ≤ 32
-    → Some place ≡ position_from (is_on clock) 0 (zip states clocks) → place < 32
+pub place-small : (clock : ℕ) (states : List PortState) (clocks : List ℕ) (place : ℕ) → length states ≤ PORTS_MAX
+    → Some place ≡ position_from (is_on clock) 0 (zip states clocks) → place < PORTS_MAX
 place-small clock states clocks place few is =
     let far : place < 0 + length (zip states clocks) = position_from-below (is_on clock) (zip states clocks) 0 place (sym is) in
     let short : length (zip states clocks) ≤ length states = length-zip_le states clocks in

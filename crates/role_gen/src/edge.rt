@@ -1,5 +1,6 @@
 ghost use Rattle.std.specs.Prelude.{◌≡◌, ℕ, ◌<◌, ◌≤◌, ◌==◌, ◌&&◌, All, find, length};
 ghost use Rattle.std.specs.List.{position_from, zip};
+ghost use Rattle.ptp_base.specs.declared.limits.TheConstants.{CLOCKS_MAX, PORTS_MAX};
 ghost use Rattle.ptp_base.specs.declared.port.PortState.{PortState};
 ghost use Rattle.ptp_profile.specs.Machine.{is_following, is_slave};
 ghost use Rattle.ptp_profile.specs.Roles.{edge_by, edges_of, port_on, slave_clock, ctrls_of};
@@ -9,12 +10,14 @@ ghost use Rattle.role_gen.specs.Generations.{HaveCtrls};
 use ptp_base::{PortId, PortState};
 use ptp_profile::{Edge, edges_make_a_forest};
 
+/// Whether a port in this state follows a master.
 fn is_following(state: PortState) -> bool
     ensures { result ≡ is_following state }
 {
     matches!(state, PortState::Uncalibrated | PortState::Slave)
 }
 
+/// Whether it is SLAVE.
 fn is_slave(state: PortState) -> bool
     ensures { result ≡ is_slave state }
 {
@@ -33,7 +36,7 @@ fn place_on(clock: u8, states: &[PortState], map: &[u8]) -> Option<usize>
 
 /// The number, from 1, of the port that follows on the clock.
 fn port_on(clock: u8, states: &[PortState], map: &[u8]) -> Option<u8>
-    requires few { length states.now ≤ 32 }
+    requires few { length states.now ≤ PORTS_MAX }
     ensures { result ≡ port_on clock states.now map.now }
 {
     match place_on(clock, states, map) {
@@ -77,12 +80,12 @@ fn edge_by(parent: PortId, port: Option<u8>, source: Option<u8>) -> Option<Edge>
 /// Writes what drives each clock: the port of it in UNCALIBRATED or SLAVE, which follows `parent`,
 /// else, where some port is in SLAVE, the follower that copies the clock of that port, else nothing
 /// (own). `states` and `map` are of the ports by rising number; `map` says on which clock each stands.
-/// There are at most 32 ports and 16 clocks, and each clock of `map` has a place in `out`. Takes no
-/// memory.
+/// There are at most `PORTS_MAX` ports and `CLOCKS_MAX` clocks, and each clock of `map` has a place in
+/// `out`. Does not allocate.
 pub fn edges(states: &[PortState], map: &[u8], parent: PortId, out: &mut [Option<Edge>])
     requires same_length { length states.now ≡ length map.now }
-    requires few { length states.now ≤ 32 }
-    requires clocks { length out.old ≤ 16 }
+    requires few { length states.now ≤ PORTS_MAX }
+    requires clocks { length out.old ≤ CLOCKS_MAX }
     requires there { All (λ clock. clock < length out.old) map.now }
     ensures edges { out.new ≡ edges_of (length out.old) parent states.now map.now }
     ensures forest { IsForest (ctrls_of out.new) }

@@ -1,4 +1,5 @@
 ghost use Rattle.std.specs.Prelude.{◌≡◌, ℕ, ◌+◌, ◌<◌, ◌↔◌, IsTrue, IfOk, IfSome, None, length};
+ghost use Rattle.ptp_base.specs.declared.limits.TheConstants.{GENERATION_MAX};
 ghost use Rattle.ptp_profile.specs.Roles.{are_same_edges, is_same_edge};
 ghost use Rattle.role_gen.specs.Generations.{Generation, no_generation};
 
@@ -7,6 +8,7 @@ use ptp_profile::Edge;
 use std::alloc::Global;
 use std::marker::Model;
 
+/// The same edge, its parent included.
 fn is_same(old: &Option<Edge>, new: &Option<Edge>) -> bool
     ensures { result ≡ is_same_edge old.now new.now }
 {
@@ -69,10 +71,10 @@ impl Generations {
 
     /// Begins the next generation where an edge differs, its parent included, and answers its number.
     /// None, and nothing changes, exactly where all edges are the same. `new` has one place for each
-    /// clock, and the generation is below 262,143. Takes no memory.
+    /// clock, and the generation is below `GENERATION_MAX`. Does not allocate.
     pub fn advance(&mut self, new: &[Option<Edge>]) -> Option<u32>
         requires same_length { length new.now ≡ length self.old.edges }
-        requires below { self.old.gener < 262143 }
+        requires below { self.old.gener < GENERATION_MAX }
         ensures none { (result ≡ None) ↔ IsTrue (are_same_edges self.old.edges new.now) }
         ensures same { result ≡ None → self.new ≡ self.old }
         ensures next { IfSome result (λ gener. gener ≡ self.old.gener + 1) }

@@ -1,5 +1,6 @@
 ghost use Rattle.std.specs.Prelude.{◌≡◌, ℕ, ◌+◌, ◌*◌, ◌<◌, ◌≤◌, ◌⊎◌, ◌++◌, drop, take, length, if◌then◌else◌, List, []};
 ghost use Rattle.std.specs.Option.{option_to_list};
+ghost use Rattle.ptp_base.specs.declared.limits.TheConstants.{CLOCKS_MAX};
 ghost use Rattle.ptp_profile.specs.Roles.{is_same_edge, revoke, revokes, grant, grants, orders_of, ctrls_of};
 ghost use Rattle.ptp_profile.specs.Forest.{IsForest, IsPart, ctrls_after};
 ghost use Rattle.role_gen.specs.Generations.{HaveCtrls, HasCtrlIfAny};
@@ -62,7 +63,7 @@ fn put_revokes(
     out: &mut [RoleOrder],
 ) -> usize
     requires same_length { length old.now ≡ length new.now }
-    requires few { length old.now ≤ 16 }
+    requires few { length old.now ≤ CLOCKS_MAX }
     requires places { length old.now ≤ length out.old }
     ensures front { take result out.new ≡ revokes gener old.now new.now }
     ensures count { result ≤ length old.now }
@@ -84,7 +85,7 @@ fn put_grants(
     revokes: usize,
 ) -> usize
     requires same_length { length old.now ≡ length new.now }
-    requires few { length old.now ≤ 16 }
+    requires few { length old.now ≤ CLOCKS_MAX }
     requires ctrls { HaveCtrls new.now }
     requires places { revokes + length old.now ≤ length out.old }
     ensures front { take result out.new ≡ take revokes out.old ++ grants gener old.now new.now }
@@ -102,9 +103,9 @@ fn put_grants(
 /// Writes the orders of the generation in which the edges of the clocks become `new`, and answers how
 /// many they are: a revoke of each clock that had an edge and whose edge changed, in rising clocks,
 /// then a grant of each clock whose edge changed to a new one, in rising clocks (own). So no order
-/// makes a clock copy one that copies it back, whichever of them have come. There are at most 16
-/// clocks, the controllers of the new edges fit into octets, and `out` has two places for each clock.
-/// Takes no memory.
+/// makes a clock copy one that copies it back, whichever of them have come. There are at most
+/// `CLOCKS_MAX` clocks, the controllers of the new edges fit into octets, and `out` has two places for
+/// each clock. Does not allocate.
 pub fn orders(
     gener: u32,
     old: &[Option<Edge>],
@@ -112,7 +113,7 @@ pub fn orders(
     out: &mut [RoleOrder],
 ) -> usize
     requires same_length { length old.now ≡ length new.now }
-    requires few { length old.now ≤ 16 }
+    requires few { length old.now ≤ CLOCKS_MAX }
     requires ctrls { HaveCtrls new.now }
     requires places { length out.old ≡ 2 * length old.now }
     ensures count { result ≡ length (orders_of gener old.now new.now) }

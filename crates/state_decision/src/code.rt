@@ -1,8 +1,7 @@
 ghost use Rattle.std.specs.Prelude.{◌≡◌};
 ghost use Rattle.ptp_profile.specs.Decision.{wins_against, wins_by_topology, is_received_on, never_follows, stays, decided_code, code_of};
 
-use crate::best::wins;
-use ds_compare::compare;
+use ds_compare::{compare, wins};
 use ptp_base::{Announcement, Code, PortState};
 use ptp_profile::Order;
 

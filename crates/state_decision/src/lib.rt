@@ -7,7 +7,7 @@ mod code;
 mod decision;
 
 pub use best::ebest;
-pub use decision::decide_all;
+pub use decision::{codes_with, decide_all};
 pub use ptp_base::Code;
 pub use ptp_profile::PortBest;
 

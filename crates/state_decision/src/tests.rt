@@ -100,3 +100,16 @@ fn the_own_class_decides(rt: HostRuntime) {
     decide_all(&own(248), &[silent(PortState::Slave)], &mut alone);
     assert_eq!(rt; alone, [Code::M2]);
 }
+
+#[test]
+fn a_given_best_decides(rt: HostRuntime) {
+    let ports = [hears(1, 128, 1, port(MASTER, 1)), silent(PortState::Master)];
+    for (best, codes) in [
+        (ebest(&ports), [Code::S1, Code::M3]),
+        (None, [Code::M2, Code::M2]),
+    ] {
+        let mut out = [Code::Stay; 2];
+        codes_with(&own(248), &best, &ports, &mut out);
+        assert_eq!(rt; out, codes);
+    }
+}

@@ -1,5 +1,6 @@
 use Rattle.std.proofs.Common.{◌<◌, Option, Some, sym, subst}
 use Rattle.std.specs.Option.{IfSome}
+use Rattle.ptp_base.specs.declared.limits.TheConstants.{STEPS_END}
 use Rattle.ptp_base.specs.declared.announcement.Announcement.{Announcement}
 use Rattle.foreign_master.proofs.Passing.{Passed, pass_more, pass_done, pass_falls, near_better, near_least}
 use Rattle.foreign_master.proofs.pass.winner.Goals as goal
@@ -11,7 +12,7 @@ pub loop-place-preserved : goal.loop-place-preserved
 loop-place-preserved c = record {
   passed = λ kept keeps reached. subst (Passed c.args.window c.args.at kept (Some c.in-Some.place.said.sender)) (sym c.better-best.ensures)
       (pass_more c.args.window c.args.at c.args.places.now kept c.loop-place.former c.loop-place.best c.in-Some.place keeps reached c.in-Some.ensures (c.loop-place.invariant.passed kept keeps reached));
-  near = subst (λ (o : Option Announcement). IfSome o (λ (a : Announcement). a.steps < 255)) (sym c.better-best.ensures)
+  near = subst (λ (o : Option Announcement). IfSome o (λ (a : Announcement). a.steps < STEPS_END)) (sym c.better-best.ensures)
       (near_better c.loop-place.best c.in-Some.place.said c.loop-place.invariant.near (near_least c.args.window c.args.at c.args.places.now c.loop-place.former c.in-Some.place c.requires c.in-Some.ensures));
 }
 

@@ -1,7 +1,8 @@
 use Rattle.std.proofs.Common.{◌≡◌, ◌+◌, ◌≤◌, ◌++◌, length}
 use Rattle.std.specs.Vec.Iter.{into_iter_items, into_iter_len}
+use Rattle.ptp_base.specs.declared.limits.TheConstants.{CLOCKS_MAX}
 use Rattle.discipline_seat.specs.Inside.{logs_of, openings_of}
-use Rattle.discipline_seat.specs.Seats.{logs_from}
+use Rattle.ptp_profile.specs.Logs.{logs_from}
 use Rattle.discipline_seat.proofs.plain.PlainSeats.part.Given as goal
 
 abbrev pub invariant-loop-seat : goal.invariant-loop-seat
@@ -11,5 +12,5 @@ invariant-loop-seat l = record {
   logs : l.logs.items ≡ logs_from 0 (openings_of l.yielded) (logs_of l.yielded);
   clock : l.clock ≡ length l.yielded;
   places : length (into_iter_items l.seat-iterator) ≤ l.logs.spare;
-  few : l.clock + length (into_iter_items l.seat-iterator) ≤ 16;
+  few : l.clock + length (into_iter_items l.seat-iterator) ≤ CLOCKS_MAX;
 }

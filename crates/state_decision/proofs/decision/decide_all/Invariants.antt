@@ -1,7 +1,0 @@
-use Rattle.std.proofs.Common.{◌≡◌, ◌+◌, ◌++◌, drop, take}
-use Rattle.ptp_profile.specs.Decision.{codes_of}
-use Rattle.state_decision.proofs.Codes.{codes_from}
-use Rattle.state_decision.proofs.decision.decide_all.Given as goal
-
-abbrev pub invariant-loop-i : goal.invariant-loop-i
-invariant-loop-i l = take l.i l.out ++ codes_from l.own l.best (l.i + 1) (drop l.i l.bests) ≡ codes_of l.own l.bests
