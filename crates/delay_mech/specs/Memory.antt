@@ -1,6 +1,8 @@
 -- What contracts see of Delays, and the whole list of delays since they were last cleared, the newest first.
-use Rattle.std.specs.Prelude.{◌≡◌, ℕ, ℤ, pos, neg_ℤ, ◌≤ℤ◌, ◌≤◌, ◌^◌, List, [], take, All, Option, Some, None, IfSome}
+use Rattle.std.specs.Prelude.{◌≡◌, ℕ, ℤ, pos, ◌≤◌, ◌^◌, List, [], take, All, Option, Some, None, IfSome}
+use Rattle.ptp_base.specs.Floor.{IsWithin}
 use Rattle.ptp_base.specs.declared.identity.PortId.{PortId}
+use Rattle.ptp_base.specs.declared.limits.TheConstants.{DELAYS_MAX}
 use Rattle.ptp_base.specs.declared.triple.Triple.{Triple}
 use Rattle.ptp_profile.specs.Sync.{Request, answered, with_delay}
 use Rattle.delay_mech.specs.declared.request.Waiting.{Waiting}
@@ -42,23 +44,18 @@ response_to (Some request) = Matched
 abbrev pub request_of : Waiting → Request
 request_of w = record { seq = w.seq; sent = w.sent }
 
--- a number from -bound to bound
-pub record IsWithin (bound : ℕ) (z : ℤ) : Type 0 where
-  pub low : neg_ℤ (pos bound) ≤ℤ z
-  pub high : z ≤ℤ pos bound
-
 -- the correction of a Sync and its Follow_Up, in ns times 65,536
 abbrev pub IsCorrection : ℤ → Type 0
-IsCorrection c = IsWithin (2 ^ 64) c
+IsCorrection c = IsWithin (pos (2 ^ 64)) c
 
 -- a delay is far from the ends of 128 bits
 abbrev pub IsDelay : ℤ → Type 0
-IsDelay d = IsWithin (2 ^ 82) d
+IsDelay d = IsWithin (pos (2 ^ 82)) d
 
 -- there are places for the delays that count, and what is kept is small enough to be added up
 pub record IsSound (most : ℕ) (triple : Option Triple) (delays : List ℤ) (places : ℕ) : Type 0 where
   pub some : 1 ≤ most
-  pub few : most ≤ 32
+  pub few : most ≤ DELAYS_MAX
   pub reserved : places ≡ most
   pub last : delays ≡ take most delays
   pub corrections : IfSome triple (λ t. IsCorrection t.correction)

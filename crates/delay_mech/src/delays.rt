@@ -1,4 +1,5 @@
 ghost use Rattle.std.specs.Prelude.{◌≡◌, ◌≤◌, ℤ, List, [], IfOk, IfSome, option_map};
+ghost use Rattle.ptp_base.specs.declared.limits.TheConstants.{DELAYS_MAX};
 ghost use Rattle.ptp_profile.specs.Sync.{with_delay, median, mean_of};
 ghost use Rattle.delay_mech.specs.Memory.{Remembers, IsCorrection, IsDelay, empty, request_of, answered_by, after_response, response_to};
 
@@ -6,7 +7,7 @@ use crate::arithmetic::delay;
 use crate::median::median;
 use crate::request::Waiting;
 use circular_buffer::HeapCircularBuffer;
-use ptp_base::{NoMemory, PortId, Scaled, Triple};
+use ptp_base::{DELAYS_MAX, NoMemory, PortId, Scaled, Triple};
 use std::alloc::Global;
 use std::marker::Model;
 
@@ -20,7 +21,7 @@ pub enum Response {
 }
 
 /// The last delays of one port, and what it needs for the next one: the last Sync with its origin,
-/// and the request that waits (IEEE 1588-2019, 11.3.2). Only `new` takes memory.
+/// and the request that waits (IEEE 1588-2019, 11.3.2). Only `new` allocates.
 #[derive(Drop)]
 pub struct Delays {
     own: PortId,
@@ -43,10 +44,10 @@ impl Model for Delays {
 }
 
 impl Delays {
-    /// No delays of the port `own`, with places for `length` of them: from 1 to 32.
+    /// No delays of the port `own`, with places for `length` of them: from 1 to `DELAYS_MAX`.
     pub fn new(alloc: Global, own: PortId, length: u8) -> Result<Delays, NoMemory>
         requires some { 1 ≤ length }
-        requires few { length ≤ 32 }
+        requires few { length ≤ DELAYS_MAX }
         ensures exact { IfOk result (λ d. d ≡ empty own length) }
         ensures all { IfOk result (λ d. Remembers d []) }
     {
@@ -133,7 +134,7 @@ impl Delays {
         // It is from -2^82 to 2^82.
         ensures within { IfSome result IsDelay }
     {
-        let mut numbers = [0; 32];
+        let mut numbers = [0; DELAYS_MAX as usize];
         let count = self.delays.len();
         for i in 0..count {
             if let Some(delay) = self.delays.get(i) {

@@ -1,7 +1,8 @@
 ghost use Rattle.std.specs.Prelude.{◌≤◌};
+ghost use Rattle.ptp_base.specs.declared.limits.TheConstants.{DELAYS_MAX};
 
 use crate::*;
-use ptp_base::{ClockId, PortId, Scaled, Triple};
+use ptp_base::{ClockId, DELAYS_MAX, PortId, Scaled};
 use std::alloc::Global;
 use std::test::Fail;
 
@@ -25,7 +26,7 @@ const LAST: i64 = 9_223_372_036_854_775_807;
 /// No delays of the own port.
 fn delays(alloc: Global, length: u8) -> Result<Delays, Fail>
     requires some { 1 ≤ length }
-    requires few { length ≤ 32 }
+    requires few { length ≤ DELAYS_MAX }
 {
     match Delays::new(alloc, OWN, length) {
         Ok(delays) => Ok(delays),
@@ -102,7 +103,7 @@ fn the_mean_is_the_median(rt: HostRuntime) -> Result<(), Fail> {
         ((16, -3), (16, 8), 2),
         ((17, 8), (15, -3), 8),
     ] {
-        let mut delays = delays(rt.alloc(), 32)?;
+        let mut delays = delays(rt.alloc(), DELAYS_MAX)?;
         repeat(&mut delays, first.0, first.1);
         repeat(&mut delays, second.0, second.1);
         let mean: Scaled = mean;

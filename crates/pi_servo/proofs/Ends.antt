@@ -2,7 +2,7 @@
 use Rattle.std.proofs.Common.{◌≡◌, ℕ, ℤ, pos, negsuc, ◌≤ℤ◌, ◌+ℤ◌, Bool, true, false, nat_lt, nat_abs, cond, ◌⊎◌, ⊎_elim, inl, inr, ap, sym, ◌∙◌, arith}
 use Rattle.std.proofs.lemmas.Int.{ints}
 use Rattle.std.proofs.lemmas.Bool.Decides.{nat_tests}
-use Rattle.model_clock.specs.Clock.{IsWithin}
+use Rattle.ptp_base.specs.Floor.{IsWithin}
 use Rattle.ptp_profile.specs.declared.timing.ServoConf.{ServoConf}
 use Rattle.ptp_profile.specs.Servo.{Sample, limit, part, wanted, passes}
 use Rattle.pi_servo.proofs.Parts.{part-rises, part-falls}

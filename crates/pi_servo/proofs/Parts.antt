@@ -2,7 +2,7 @@
 use Rattle.std.proofs.Common.{ℕ, ℤ, pos, negsuc, ◌+◌, ◌*◌, ◌<◌, ◌≤◌, ◌≤ℤ◌, zero, suc, arith}
 use Rattle.std.proofs.Math.Nat.{mul-le-mul_left}
 use Rattle.std.proofs.lemmas.Int.{ints}
-use Rattle.model_clock.specs.Clock.{IsWithin}
+use Rattle.ptp_base.specs.Floor.{IsWithin}
 use Rattle.ptp_profile.specs.Servo.{part}
 
 pub part-rises : (gain : ℕ) (offset : ℤ) → pos 0 ≤ℤ offset → pos 0 ≤ℤ part gain offset

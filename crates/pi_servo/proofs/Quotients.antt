@@ -2,8 +2,7 @@
 use Rattle.std.proofs.Common.{ℕ, ℤ, pos, negsuc, ◌*◌, ◌/◌, ◌≤◌, ◌<ℤ◌, ◌*ℤ◌, suc, arith}
 use Rattle.std.proofs.Math.Nat.{mul-le-mul, div-le_self}
 use Rattle.std.proofs.lemmas.Int.{ints}
-use Rattle.ptp_base.specs.Floor.{floor_of}
-use Rattle.model_clock.specs.Clock.{IsWithin}
+use Rattle.ptp_base.specs.Floor.{IsWithin, floor_of}
 
 times : (m n a b : ℕ) → a ≤ m → b ≤ n → a * b ≤ m * n
 times m n a b h k = mul-le-mul h k

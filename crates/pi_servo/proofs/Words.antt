@@ -2,7 +2,7 @@
 use Rattle.std.proofs.Common.{ℕ, ℤ, pos, negsuc, ◌≡◌, ◌<◌, ◌-ℤ◌, neg_ℤ, ap, ◌∙◌, arith, SFits, to_z, of_z, w64}
 use Rattle.std.specs.Int.{w128}
 use Rattle.std.proofs.lemmas.Int.{ints, to_z-of_z}
-use Rattle.model_clock.specs.Clock.{IsWithin}
+use Rattle.ptp_base.specs.Floor.{IsWithin}
 
 pub fits_wide : (n : ℕ) (z : ℤ) → n < 170141183460469231731687303715884105728 → IsWithin (pos n) z → SFits w128 z
 fits_wide n (pos k) few h = record { sfits = omega (arith, ints, h) }

@@ -1,5 +1,5 @@
 ghost use Rattle.std.specs.Prelude.{ℕ, ℤ, pos, ◌≡◌, neg_ℤ};
-ghost use Rattle.model_clock.specs.Clock.{IsWithin};
+ghost use Rattle.ptp_base.specs.Floor.{IsWithin};
 ghost use Rattle.ptp_profile.specs.declared.timing.Action.TheVariants.{Locked};
 ghost use Rattle.ptp_profile.specs.Servo.{limit, held_within, wanted, jumps, first_action, IsGentle};
 ghost use Rattle.pi_servo.specs.Samples.{sample_at};

@@ -1,6 +1,5 @@
 ghost use Rattle.std.specs.Prelude.{ℕ, ℤ, pos, ◌≡◌, ◌<◌, ◌-ℤ◌, ◌*ℤ◌, ◌<ℤ◌};
-ghost use Rattle.ptp_base.specs.Floor.{floor_of};
-ghost use Rattle.model_clock.specs.Clock.{IsWithin};
+ghost use Rattle.ptp_base.specs.Floor.{IsWithin, floor_of};
 ghost use Rattle.ptp_profile.specs.Servo.{limit, estimate};
 ghost use Rattle.pi_servo.specs.Samples.{sample_at};
 

@@ -1,5 +1,5 @@
 ghost use Rattle.std.specs.Prelude.{pos, ◌≡◌, ◌+ℤ◌, ◌*ℤ◌, ◌≤ℤ◌};
-ghost use Rattle.model_clock.specs.Clock.{IsWithin};
+ghost use Rattle.ptp_base.specs.Floor.{IsWithin};
 ghost use Rattle.ptp_profile.specs.Servo.{part};
 
 use ptp_base::floor_div;

@@ -1,5 +1,5 @@
 ghost use Rattle.std.specs.Prelude.{pos, ◌≡◌, ◌≤◌, nat_lt, nat_abs};
-ghost use Rattle.model_clock.specs.Clock.{IsWithin};
+ghost use Rattle.ptp_base.specs.Floor.{IsWithin};
 ghost use Rattle.ptp_profile.specs.Servo.{limit, held_within};
 
 use ptp_profile::ServoConf;

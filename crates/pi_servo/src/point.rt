@@ -1,5 +1,5 @@
 ghost use Rattle.std.specs.Prelude.{pos, ◌≡◌, ◌<◌, ◌-ℤ◌, ◌<ℤ◌};
-ghost use Rattle.model_clock.specs.Clock.{IsWithin};
+ghost use Rattle.ptp_base.specs.Floor.{IsWithin};
 
 /// An offset of the clock, and when it was measured.
 #[derive(Clone, Copy)]

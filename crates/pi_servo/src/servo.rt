@@ -1,5 +1,5 @@
 ghost use Rattle.std.specs.Prelude.{ℕ, ℤ, pos, ◌≡◌, ◌<◌, true, false, List, [], ◌∷◌};
-ghost use Rattle.model_clock.specs.Clock.{IsWithin};
+ghost use Rattle.ptp_base.specs.Floor.{IsWithin};
 ghost use Rattle.ptp_profile.specs.declared.timing.ServoConf.{ServoConf};
 ghost use Rattle.ptp_profile.specs.Servo.{Sample, Running, estimate, next_phase, next_drift, first_action, action_at, action_after, is_held, IsGentle};
 ghost use Rattle.pi_servo.specs.Samples.{sample_at};
@@ -16,7 +16,7 @@ use ptp_base::TIME_MAX;
 use ptp_profile::{Action, ServoConf};
 use std::marker::Model;
 
-/// A proportional and integral servo over one run of offsets (own). It takes no memory.
+/// A proportional and integral servo over one run of offsets (own). It does not allocate.
 #[derive(Drop)]
 pub struct Servo {
     conf: ServoConf,
@@ -30,7 +30,7 @@ pub struct Servo {
 
 impl Model for Servo {
     ghost use Rattle.std.specs.Prelude.{pos};
-    ghost use Rattle.model_clock.specs.Clock.{IsWithin};
+    ghost use Rattle.ptp_base.specs.Floor.{IsWithin};
     ghost use Rattle.ptp_profile.specs.Servo.{limit};
     ghost use Rattle.pi_servo.specs.Run.{Progress, phase_of};
 

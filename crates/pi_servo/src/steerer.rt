@@ -1,5 +1,5 @@
 ghost use Rattle.std.specs.Prelude.{◌≡◌, ◌≢◌, true, false, List, [], ◌∷◌, Some};
-ghost use Rattle.model_clock.specs.Clock.{IsWithin};
+ghost use Rattle.ptp_base.specs.Floor.{IsWithin};
 ghost use Rattle.ptp_profile.specs.declared.timing.ServoConf.{ServoConf};
 ghost use Rattle.ptp_profile.specs.Servo.{Sample, newest_action, IsGentle};
 ghost use Rattle.pi_servo.specs.Samples.{sample_at};
@@ -10,7 +10,7 @@ use ptp_base::TIME_MAX;
 use ptp_profile::{Action, ServoConf};
 use std::marker::Model;
 
-/// Servos for the generations of a clock's samples, one after another (own). It takes no memory.
+/// Servos for the generations of a clock's samples, one after another (own). It does not allocate.
 #[derive(Drop)]
 pub struct Steerer {
     conf: ServoConf,

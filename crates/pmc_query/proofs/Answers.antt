@@ -18,7 +18,8 @@ use Rattle.ptp_profile.specs.declared.management.Field.{Field}
 use Rattle.ptp_profile.specs.declared.management.ManagementId.{ManagementId}
 use Rattle.ptp_profile.specs.declared.management.ManagementId.TheVariants.{NullManagement, DefaultDataSet, CurrentDataSet, ParentDataSet, TimePropertiesDataSet, PortDataSet, Priority1, Priority2, Domain}
 use Rattle.ptp_profile.specs.Management.{managed_octets, managed_read}
-use Rattle.ptp_profile.specs.Fields.{fields_octets, id_fields, id_number, id_numbered, shape_of, state_number, width_of}
+use Rattle.ptp_profile.specs.Fields.{fields_octets, id_fields, id_number, id_numbered, shape_of, width_of}
+use Rattle.ptp_profile.specs.Machine.{state_number}
 use Rattle.ptp_profile.specs.Queries.{AnsweringPort, AnsweringSets, all_ports, can_show, clock_values, has_state, is_known, is_of_ports, message_shows, port_values, response_to, shows}
 use Rattle.pmc_query.specs.Sets.{answering_port, ports_answers}
 

@@ -199,7 +199,7 @@ fn action_asked(action: Option<Action>, rest: Option<&[u8]>) -> Result<Request, 
 /// What a text asks: `GET`, `SET` or `COMMAND`, the name of a management message, both in any case
 /// of letters, and behind `GET` the port, `*` or 65535 for all ports, which nothing stands for too.
 /// What follows the name behind `SET` and `COMMAND` is passed over. Words are parted by one space.
-/// Takes no memory.
+/// Does not allocate.
 ///
 /// `Action` is answered where the first word is no action, else `Unknown` where the second is no
 /// name, else `Target` where the third names no port from 1 to 65,535, or there is a fourth.

@@ -70,7 +70,7 @@ pub fn lend_itself(octets: &[u8]) -> Option<Lent<'_>>
 /// Whether octets can be printed: they are a management message (IEEE 1588-2019, 15.4.1) in the
 /// domain of their own octet 4, and an error of the action RESPONSE or ACKNOWLEDGE, or a RESPONSE of
 /// a known id with as many octets as that has, for PORT_DATA_SET with a portState from 1 to 9. Every
-/// answer of `answer` is so. Takes no memory.
+/// answer of `answer` is so. Does not allocate.
 #[tactic(auto, unfolding(ptp_profile::specs::Queries::shows))]
 pub fn shows(octets: &[u8]) -> bool
     ensures { result ≡ shows octets.now }

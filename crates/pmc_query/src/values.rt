@@ -2,7 +2,8 @@
 
 ghost use Rattle.std.specs.Prelude.{◌≡◌, ◌≤◌, ◌++◌, length, IfOk, OnOk};
 ghost use Rattle.byteorder.specs.Endian.{big_bytes};
-ghost use Rattle.ptp_profile.specs.Fields.{fields_octets, state_number};
+ghost use Rattle.ptp_profile.specs.Fields.{fields_octets};
+ghost use Rattle.ptp_profile.specs.Machine.{state_number};
 ghost use Rattle.ptp_profile.specs.Queries.{clock_values, port_value, port_values};
 ghost use Rattle.pmc_query.specs.Sets.{answering, answering_port};
 

@@ -1,11 +1,9 @@
 -- What entering a state makes of a port.
-use Rattle.std.proofs.Common.{◌≡◌, ◌∙◌, ◌⊎◌, inl, inr, sym, ap, subst, refl, ℕ, ◌==◌, Bool, true, false, if◌then◌else◌}
+use Rattle.std.proofs.Common.{◌≡◌, subst, ℕ, Bool, true, false, if◌then◌else◌}
 use Rattle.ptp_base.specs.declared.port.PortConf.{PortConf}
 use Rattle.ptp_base.specs.declared.port.PortState.{PortState}
-use Rattle.ptp_base.specs.declared.port.PortState.TheVariants.{Listening, Passive}
-use Rattle.ptp_profile.specs.declared.port.PortEvent.{PortEvent}
-use Rattle.ptp_profile.specs.Timers.{Timers, waiting_timers}
-use Rattle.ptp_profile.specs.Port.{Port, entered}
+use Rattle.ptp_profile.specs.Timers.{Timers}
+use Rattle.ptp_profile.specs.Port.{Port}
 use Rattle.port_engine.specs.Engine.{Engine, IsEngineOf}
 
 abbrev pub state_of : Engine → PortState

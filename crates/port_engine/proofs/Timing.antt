@@ -1,5 +1,5 @@
 -- What an engine makes of messages that are no Announce, over plain values.
-use Rattle.std.proofs.Common.{◌≡◌, ◌∙◌, ap, sym, subst, refl, ℕ, ℤ, Bool, true, false, not, ◌==◌, ◌&&◌, bit_and, if◌then◌else◌, List, [], ◌∷◌, ◌++◌, append-nil, Option, Some, None, option_and_then, option_to_list}
+use Rattle.std.proofs.Common.{◌≡◌, ◌∙◌, ap, sym, subst, refl, ℕ, ℤ, Bool, true, false, not, ◌==◌, ◌&&◌, bit_and, if◌then◌else◌, List, ◌∷◌, ◌++◌, append-nil, Option, Some, None, option_and_then, option_to_list}
 use Rattle.ptp_base.specs.declared.identity.PortId.{PortId}
 use Rattle.ptp_base.specs.declared.triple.Triple.{Triple}
 use Rattle.ptp_profile.specs.declared.message.Message.{Message}

@@ -1,6 +1,7 @@
 -- Frames that are still to be written.
 use Rattle.std.specs.Prelude.{◌≡◌, ℕ, ⊤, []}
 use Rattle.ptp_base.specs.Room.{Reserved}
+use Rattle.ptp_base.specs.declared.limits.TheConstants.{SENT_MAX}
 use Rattle.port_engine.specs.declared.blanks.Blanks.{Blanks}
 use Rattle.port_engine.specs.declared.blanks.Blanks.TheVariants.{Empty, One, Two}
 
@@ -9,9 +10,9 @@ count_of Empty = 0
 count_of (One frame) = 1
 count_of (Two frame next) = 2
 
--- nothing is written, and the longest message has a place: 64 octets (13.5)
+-- nothing is written, and the longest message has a place
 abbrev pub IsBlank : Reserved ℕ → Type 0
-IsBlank frame = frame ≡ record { items = []; spare = 64 }
+IsBlank frame = frame ≡ record { items = []; spare = SENT_MAX }
 
 abbrev pub AreBlank : Blanks → Type 0
 AreBlank Empty = ⊤

@@ -1,13 +1,11 @@
-ghost use Rattle.std.specs.Prelude.{◌≡◌, [], IfOk, ◌<◌, ◌+◌, ◌↔◌, IsTrue};
+ghost use Rattle.std.specs.Prelude.{◌≡◌, [], IfOk, ◌<◌, ◌≤◌, ◌+◌};
 ghost use Rattle.ptp_base.specs.Room.{Reserved};
+ghost use Rattle.ptp_base.specs.declared.limits.TheConstants.{SENT_MAX};
 ghost use Rattle.port_engine.specs.Blanks.{AreBlank, count_of};
 
-use ptp_base::{NoMemory, Room};
+use ptp_base::{NoMemory, Room, SENT_MAX};
 use std::alloc::Global;
 use std::mem;
-
-/// The places of the longest message, in octets (IEEE 1588-2019, 13.5).
-const LONGEST: usize = 64;
 
 /// Frames that are still to be written.
 #[derive(Drop)]
@@ -23,21 +21,26 @@ impl Blanks {
         ensures blank { IfOk result AreBlank }
         ensures count { IfOk result (λ b. count_of b ≡ 2) }
     {
-        Ok(Blanks::Two(Room::with(alloc, LONGEST)?, Room::with(alloc, LONGEST)?))
+        Ok(Blanks::Two(Room::with(alloc, SENT_MAX)?, Room::with(alloc, SENT_MAX)?))
     }
 
-    /// Whether there are two.
-    pub fn are_two(&self) -> bool
-        ensures { IsTrue result ↔ (count_of self.now ≡ 2) }
+    /// How many there are: 0, 1 or 2.
+    pub fn count(&self) -> usize
+        ensures exact { result ≡ count_of self.now }
+        ensures few { result ≤ 2 }
     {
-        matches!(self, Blanks::Two(..))
+        match self {
+            Blanks::Empty => 0,
+            Blanks::One(_) => 1,
+            Blanks::Two(..) => 2,
+        }
     }
 
     /// Takes one of them.
     pub fn take(&mut self) -> Room<u8>
         requires blank { AreBlank self.old }
         requires some { 0 < count_of self.old }
-        ensures blank { result ≡ record { items = []; spare = 64 } }
+        ensures blank { result ≡ record { items = []; spare = SENT_MAX } }
         ensures rest { AreBlank self.new }
         ensures count { count_of self.new + 1 ≡ count_of self.old }
     {

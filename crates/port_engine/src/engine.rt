@@ -1,4 +1,5 @@
 ghost use Rattle.std.specs.Prelude.{◌≡◌, ◌≤◌, ℕ, IfOk};
+ghost use Rattle.ptp_base.specs.declared.limits.TheConstants.{DELAYS_MAX};
 ghost use Rattle.ptp_base.specs.declared.number.TheConstants.{TICK_MAX};
 ghost use Rattle.ptp_profile.specs.Timers.{timer_at, due_of};
 ghost use Rattle.ptp_profile.specs.Port.{Port, open_port, renewed, flushed, cleared};
@@ -45,11 +46,12 @@ impl Model for PortEngine {
 }
 
 impl PortEngine {
-    /// The port `id` in LISTENING at moment 0, with a mean over `length` delays: from 1 to 32.
+    /// The port `id` in LISTENING at moment 0, with a mean over `length` delays: from 1 to
+    /// `DELAYS_MAX`.
     pub fn new(alloc: Global, c: &PortConf, id: PortId, length: u8) -> Result<PortEngine, NoMemory>
         requires intervals { HasIntervals c.now }
         requires some { 1 ≤ length }
-        requires few { length ≤ 32 }
+        requires few { length ≤ DELAYS_MAX }
         ensures { IfOk result (λ e. IsEngineOf length e (open_port id c.now)) }
     {
         Ok(PortEngine {

@@ -101,7 +101,8 @@ impl PortEngine {
     /// Enters the state `new`, which is what `next` gives for the port's state, the event `cause` and
     /// `new_parent`, at `moment`, at most `TICK_MAX`, with `steps` to the grandmaster. Where that is
     /// the state that the port has, nothing is entered; but S1 with a new parent, where the port
-    /// follows already, sets announce receipt anew and clears pairing and delays. Takes no memory.
+    /// follows already, sets announce receipt anew and clears pairing and delays. Does not
+    /// allocate.
     pub fn enter(
         &mut self,
         new: PortState,

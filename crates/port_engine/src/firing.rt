@@ -1,4 +1,4 @@
-ghost use Rattle.std.specs.Prelude.{◌≡◌, ◌<◌, ◌≤◌, ◌+◌, ◌%◌, ◌≤ℤ◌, ℕ, ℤ, pos, [], ◌∷◌, ◌++◌, map, length, IsOk, IsSomeAnd, OnOk, OnErr};
+ghost use Rattle.std.specs.Prelude.{◌≡◌, ◌≤◌, ◌+◌, ◌%◌, ◌≤ℤ◌, ℕ, ℤ, pos, [], ◌∷◌, ◌++◌, map, length, IsOk, IsSomeAnd, OnOk, OnErr};
 ghost use Rattle.ptp_base.specs.declared.number.TheConstants.{TICK_MAX, TIME_MAX};
 ghost use Rattle.ptp_profile.specs.Timers.{timer_at, with_timer};
 ghost use Rattle.ptp_profile.specs.Port.{Port, fired};
@@ -33,7 +33,6 @@ impl PortEngine {
     /// The Announce of a timer that was set for `tick`, and the timer for the next one.
     fn send_announce(&mut self, tick: u64, d: &DataSets, frames: &mut Frames)
         requires early { tick ≤ TICK_MAX }
-        requires flags { d.now.time.flags < 64 }
         requires room { 1 ≤ frames.old.spare }
         ensures port { (length : ℕ) (p : Port) (seen : ℤ) → IsEngineOf length self.old p
             → IsEngineOf length self.new (fired tick seen Timer.AnnounceSend p) }
@@ -94,7 +93,6 @@ impl PortEngine {
         requires early { tick ≤ TICK_MAX }
         requires begun { pos 0 ≤ℤ seen }
         requires late { seen ≤ℤ TIME_MAX }
-        requires flags { d.now.time.flags < 64 }
         requires room { 2 ≤ frames.old.spare }
         ensures port { (length : ℕ) (p : Port) → IsEngineOf length self.old p → IsEngineOf length self.new (fired tick seen t p) }
         ensures sent { (length : ℕ) (p : Port) → IsEngineOf length self.old p
@@ -111,9 +109,8 @@ impl PortEngine {
     }
 
     /// The timer `t`, which is set, fires with the reading `seen`, from 0 to `TIME_MAX`; the tick that
-    /// it is set for is at most `TICK_MAX`, and the time flags of `d` are below 64. It is cleared, and
-    /// one that sends appends its messages and is set for an interval after its own tick. Where two
-    /// frames are reserved, it takes no memory.
+    /// it is set for is at most `TICK_MAX`. It is cleared, and one that sends appends its messages and is
+    /// set for an interval after its own tick. Where two frames are reserved, it does not allocate.
     pub fn fire(
         &mut self,
         t: Timer,
@@ -124,7 +121,6 @@ impl PortEngine {
         requires set { IsSomeAnd (timer_at self.old.timers t) (λ tick. tick ≤ TICK_MAX) }
         requires begun { pos 0 ≤ℤ seen }
         requires late { seen ≤ℤ TIME_MAX }
-        requires flags { d.now.time.flags < 64 }
         ensures port { (length : ℕ) (p : Port) (tick : ℕ) → IsEngineOf length self.old p → timer_at p.timers t ≡ Some tick
             → OnOk result (IsEngineOf length self.new (fired tick seen t p)) }
         ensures sent { (length : ℕ) (p : Port) → IsEngineOf length self.old p
@@ -132,7 +128,7 @@ impl PortEngine {
         ensures same { OnErr result (self.new ≡ self.old) }
         ensures same_frames { OnErr result (frames.new ≡ frames.old) }
 
-        // Where two frames are reserved, no memory is taken, and each frame takes one of their places.
+        // Where two frames are reserved, nothing is allocated, and each frame takes one of their places.
         ensures succeeds { 2 ≤ frames.old.spare → IsOk result }
         ensures room { 2 ≤ frames.old.spare → frames.new.spare + length frames.new.items ≡ frames.old.spare + length frames.old.items }
     {

@@ -7,8 +7,8 @@ use ptp_wire::{Message, encode_reserved};
 use std::alloc::Global;
 use std::marker::Model;
 
-/// The frames that were sent, each as its octets. Contracts see the list, and how many more frames
-/// it takes without memory.
+/// The frames that were sent, each as its octets. Contracts see the list, and for how many more
+/// messages it has room.
 #[derive(Drop)]
 pub struct Frames {
     alloc: Global,
@@ -51,7 +51,7 @@ impl Frames {
         self.sent.as_slice()
     }
 
-    /// The list of the frames, which takes no memory.
+    /// The list of the frames. Does not allocate.
     pub fn into_items(self) -> Items<Octets>
         ensures { result ≡ self.items }
     {
@@ -63,7 +63,7 @@ impl Frames {
         Items::from_vec(sent)
     }
 
-    /// Makes room for two frames, unless there is. Adding them then takes no memory.
+    /// Makes room for two frames, unless there is. Adding them then does not allocate.
     pub fn reserve(&mut self) -> Result<(), NoMemory>
         ensures items { self.new.items ≡ self.old.items }
         ensures room { OnOk result (2 ≤ self.new.spare) }
@@ -71,12 +71,22 @@ impl Frames {
         ensures succeeds { 2 ≤ self.old.spare → IsOk result }
         ensures ready { 2 ≤ self.old.spare → self.new ≡ self.old }
     {
-        if self.blanks.are_two() {
+        if self.blanks.count() == 2 {
             return Ok(());
         }
         let blanks = Blanks::two(self.alloc)?;
         self.sent.reserve(2)?;
         self.blanks = blanks;
+        Ok(())
+    }
+
+    /// Adds one element at the end, or leaves the list as before. The room stays as it was.
+    pub fn push(&mut self, item: Octets) -> Result<(), NoMemory>
+        ensures ok { OnOk result (self.new ≡ record self.old { items = self.old.items ++ item ∷ [] }) }
+        ensures err { OnErr result (self.new ≡ self.old) }
+    {
+        self.sent.reserve(self.blanks.count() + 1)?;
+        self.sent.push_reserved(item);
         Ok(())
     }
 

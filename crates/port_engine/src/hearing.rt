@@ -159,7 +159,7 @@ impl PortEngine {
     /// `TIME_MAX`, and says what becomes of it, and what it measures. An Announce is passed over. A
     /// Delay_Req is answered in MASTER (IEEE 1588-2019, 9.5.12). A Sync, a Follow_Up and a Delay_Resp
     /// count where the port follows and `parent` sent them (9.5.4 to 9.5.7). Where two frames are
-    /// reserved, it takes no memory.
+    /// reserved, it does not allocate.
     pub fn heard(
         &mut self,
         m: &Message,
@@ -180,7 +180,7 @@ impl PortEngine {
         ensures same { OnErr result (self.new ≡ self.old) }
         ensures same_frames { OnErr result (frames.new ≡ frames.old) }
 
-        // Where two frames are reserved, no memory is taken, and each frame takes one of their places.
+        // Where two frames are reserved, nothing is allocated, and each frame takes one of their places.
         ensures succeeds { 2 ≤ frames.old.spare → IsOk result }
         ensures room { 2 ≤ frames.old.spare → frames.new.spare + length frames.new.items ≡ frames.old.spare + length frames.old.items }
     {

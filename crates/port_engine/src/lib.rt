@@ -14,6 +14,7 @@ mod offset;
 
 pub use engine::PortEngine;
 pub use frames::Frames;
+pub use ptp_base::PortConf;
 pub use ptp_profile::{Fate, Measure};
 
 #[cfg(test)]

@@ -1,4 +1,4 @@
-ghost use Rattle.std.specs.Prelude.{◌≡◌, ◌<◌, ◌≤ℤ◌, ℕ, pos};
+ghost use Rattle.std.specs.Prelude.{◌≡◌, ◌≤ℤ◌, ℕ, pos};
 ghost use Rattle.ptp_base.specs.declared.number.TheConstants.{TIME_MAX};
 ghost use Rattle.ptp_profile.specs.Port.{Port};
 ghost use Rattle.ptp_profile.specs.Wire.{IsSpelled};
@@ -14,15 +14,15 @@ use ptp_wire::{Body, Message, Said};
 pub(crate) const TWO_STEP: u16 = 0x0200;
 
 impl PortEngine {
-    /// An Announce, which says what the data sets say (IEEE 1588-2019, 9.5.8).
+    /// An Announce, which says what the data sets say (IEEE 1588-2019, 9.5.8); of the flags the low six
+    /// are those of the time properties (13.3.2.8).
     pub(crate) fn announce(&self, d: &DataSets) -> Message
-        requires { d.now.time.flags < 64 }
         ensures exact { (length : ℕ) (p : Port) → IsEngineOf length self.now p → result ≡ announce_by d.now.domain (master_in d.now) p }
         ensures fits { IsSpelled result }
     {
         Message {
             domain: d.domain,
-            flags: u16::from(d.time.flags),
+            flags: u16::from(d.time.flags % 64),
             correction: 0,
             sender: self.id,
             seq: self.announces,

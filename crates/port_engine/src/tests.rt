@@ -5,7 +5,7 @@ use crate::*;
 use data_sets::DataSets;
 use port_fsm::{PortEvent, Timer, next};
 use ptp_base::{
-    Announcement, ClockId, Code, Items, PortConf, PortId, PortState, Quality, TICK_MAX, TimeProps,
+    Announcement, ClockId, Code, Items, Octets, PortId, PortState, Quality, TICK_MAX, TimeProps,
 };
 use ptp_wire::{Body, Message};
 use std::alloc::Global;
@@ -164,12 +164,10 @@ fn happen(engine: &mut PortEngine, cause: PortEvent, new_parent: bool, moment: u
 /// Fires a timer that is set, with the reading of 7 s.
 fn fire(engine: &mut PortEngine, t: Timer, d: &DataSets, frames: &mut Frames) -> Result<(), Fail> {
     match engine.at(t) {
-        Some(tick) if tick <= TICK_MAX && d.time.flags < 64 => {
-            match engine.fire(t, SEEN, d, frames) {
-                Ok(()) => Ok(()),
-                Err(_) => Err("fire".into()),
-            }
-        }
+        Some(tick) if tick <= TICK_MAX => match engine.fire(t, SEEN, d, frames) {
+            Ok(()) => Ok(()),
+            Err(_) => Err("fire".into()),
+        },
         _ => Err("not set".into()),
     }
 }
@@ -262,6 +260,25 @@ fn a_master_sends_octet_by_octet(rt: HostRuntime) -> Result<(), Fail> {
     assert_eq!(rt; sent[1].items(), FOLLOW_UP.as_slice());
     assert_eq!(rt; sent[2].items(), ANNOUNCE.as_slice());
     assert_eq!(rt; sent[3].items().get(31), Some(&1));
+    Ok(())
+}
+
+#[test]
+fn a_frame_is_added_as_it_stands(rt: HostRuntime) -> Result<(), Fail> {
+    let mut engine = engine(rt.alloc())?;
+    let d = own_sets(rt.alloc());
+    let mut frames = Frames::new(rt.alloc());
+    happen(&mut engine, PortEvent::AnnounceTimeout, false, 6 * SECOND);
+    fire(&mut engine, Timer::AnnounceSend, &d, &mut frames)?;
+    let own = Octets::from_vec(vec![in rt.alloc(); 1, 2, 3]?);
+    frames.push(own).map_err(|_| "push")?;
+    fire(&mut engine, Timer::SyncSend, &d, &mut frames)?;
+    let sent = frames.items();
+    assert_eq!(rt; sent.len(), 4);
+    assert_eq!(rt; sent[0].items(), ANNOUNCE.as_slice());
+    assert_eq!(rt; sent[1].items(), [1, 2, 3].as_slice());
+    assert_eq!(rt; sent[2].items(), SYNC.as_slice());
+    assert_eq!(rt; sent[3].items(), FOLLOW_UP.as_slice());
     Ok(())
 }
 

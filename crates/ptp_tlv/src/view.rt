@@ -142,7 +142,7 @@ fn managed_at(octets: &[u8]) -> Lent<'_>
 
 /// The management message that the octets are in a domain, or none. It has version 2, majorSdoId 0,
 /// a known action, a messageLength of 54 at least and of no more than the octets, and one TLV that
-/// ends there. Hops, reserved bits and what stands behind messageLength are free. Takes no memory.
+/// ends there. Hops, reserved bits and what stands behind messageLength are free. Does not allocate.
 pub fn lend(octets: &[u8], domain: u8) -> Option<Lent<'_>>
     ensures { option_map managed_of result ≡ managed_read domain octets.now }
 {

@@ -83,18 +83,19 @@ pub const STEPS_REMOVED: usize = 61;
 /// timeSource.
 pub const TIME_SOURCE: usize = 63;
 
-/// The length of the longest of the five types, Announce.
-pub const LONGEST: usize = 64;
-
-// messageType (13.3).
+/// messageType of a Sync (13.3.2.3, table 36).
 pub const SYNC: u8 = 0x0;
 
+/// messageType of a Delay_Req (13.3.2.3, table 36).
 pub const DELAY_REQ: u8 = 0x1;
 
+/// messageType of a Follow_Up (13.3.2.3, table 36).
 pub const FOLLOW_UP: u8 = 0x8;
 
+/// messageType of a Delay_Resp (13.3.2.3, table 36).
 pub const DELAY_RESP: u8 = 0x9;
 
+/// messageType of an Announce (13.3.2.3, table 36).
 pub const ANNOUNCE: u8 = 0xb;
 
 /// The octets that a message of a type has at least (13.5 to 13.8), 0 where it is none of the five.

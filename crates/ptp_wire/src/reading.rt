@@ -123,7 +123,7 @@ fn message_at(octets: &[u8], domain: u8) -> Message
 }
 
 /// The message that stands in the octets of a frame, for a port of a domain
-/// (IEEE 1588-2019, 13.3 and 13.5 to 13.8), or what is wrong first. Takes no memory.
+/// (IEEE 1588-2019, 13.3 and 13.5 to 13.8), or what is wrong first. Does not allocate.
 ///
 /// Times are in ns, corrections in ns times 65,536. What is reserved, minorVersionPTP, minorSdoId,
 /// messageTypeSpecific, controlField, the flags that the profile does not know, and all octets

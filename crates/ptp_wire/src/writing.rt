@@ -1,12 +1,13 @@
 //! A message as octets.
 
 ghost use Rattle.std.specs.Prelude.{◌≡◌, ◌≤◌, ◌+◌, ◌-◌, ◌≤ℤ◌, pos, ◌++◌, length, drop, List, ℕ, OnOk, OnErr, unsigned_abs};
+ghost use Rattle.ptp_base.specs.declared.limits.TheConstants.{SENT_MAX};
 ghost use Rattle.ptp_base.specs.declared.number.TheConstants.{TIME_MAX};
 ghost use Rattle.ptp_profile.specs.Wire.{time_octets, said_octets, body_octets, time_in, head_of, IsSpelled, Reads, written};
 
 use crate::fields::*;
 use byteorder::{BigEndian, ByteOrder};
-use ptp_base::{Head, NoMemory, Octets, Room, eight, head_put, port_put, two};
+use ptp_base::{Head, NoMemory, Octets, Room, SENT_MAX, eight, head_put, port_put, two};
 use ptp_profile::{Body, Message, Said, holds_numbers};
 
 // A time in ns as seconds and nanoseconds (5.3.3).
@@ -40,7 +41,7 @@ fn said_put(said: &Said, out: &mut [u8])
     let [v0, v1] = two(said.quality.variance);
     let [i0, i1, i2, i3, i4, i5, i6, i7] = eight(said.grandmaster.id);
     let [s0, s1] = two(said.steps);
-    out[..LONGEST - CURRENT_UTC_OFFSET].copy_from_slice(&[
+    out[..TIME_SOURCE + 1 - CURRENT_UTC_OFFSET].copy_from_slice(&[
         u0,
         u1,
         0,
@@ -128,21 +129,21 @@ fn head_of(m: &Message) -> Head
 
 // Writes the message, and says how many octets it has.
 fn frame_put(m: &Message, out: &mut [u8]) -> usize
-    requires long { 64 ≤ length out.old }
+    requires long { SENT_MAX ≤ length out.old }
     requires fits { IsSpelled m.now }
     ensures octets { out.new ≡ written m.now ++ drop result out.old }
     ensures length { result ≡ length (written m.now) }
-    ensures short { result ≤ 64 }
+    ensures short { result ≤ SENT_MAX }
 {
     head_put(&head_of(m), out);
     BODY + body_put(&m.body, &mut out[BODY..])
 }
 
 /// How many octets the one spelling of the message has: 44, 54 or 64 (IEEE 1588-2019, 13.5 to
-/// 13.8). Takes no memory.
+/// 13.8). Does not allocate.
 pub fn written_length(m: &Message) -> usize
     ensures length { result ≡ length (written m.now) }
-    ensures short { result ≤ 64 }
+    ensures short { result ≤ SENT_MAX }
 {
     head_of(m).length as usize
 }
@@ -159,19 +160,19 @@ pub fn encode(m: &Message, out: &mut Octets) -> Result<(), NoMemory>
     ensures again { OnOk result ((rest : List ℕ) → Reads (written m.now ++ rest) m.now.domain m.now) }
 {
     holds_numbers(m);
-    let mut frame = [0; LONGEST];
+    let mut frame = [0; SENT_MAX];
     let length = frame_put(m, &mut frame);
     out.append(&frame[..length])
 }
 
 /// Appends the one spelling of the message (IEEE 1588-2019, 13.3 and 13.5 to 13.8) in reserved
-/// places, so it cannot fail. Takes no memory.
+/// places, so it cannot fail. Does not allocate.
 pub fn encode_reserved(m: &Message, out: &mut Room<u8>)
     requires fits { IsSpelled m.now }
     requires room { length (written m.now) ≤ out.old.spare }
     ensures { out.new ≡ record { items = out.old.items ++ written m.now; spare = out.old.spare - length (written m.now) } }
 {
-    let mut frame = [0; LONGEST];
+    let mut frame = [0; SENT_MAX];
     let length = frame_put(m, &mut frame);
     out.append(&frame[..length]);
 }

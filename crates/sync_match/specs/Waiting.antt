@@ -1,5 +1,5 @@
 -- What a Pairing keeps, and the whole list of pieces since it was last cleared, the newest first.
-use Rattle.std.specs.Prelude.{◌≡◌, ℕ, ℤ, pos, neg_ℤ, ◌≤ℤ◌, ◌^◌, Bool, if◌then◌else◌, List, [], ◌∷◌, Option, Some, None, option_map, is_none}
+use Rattle.std.specs.Prelude.{◌≡◌, ℕ, ℤ, Bool, if◌then◌else◌, List, [], ◌∷◌, Option, Some, None, option_map, is_none}
 use Rattle.ptp_profile.specs.Sync.{Piece, One_step, Sync, Follow_up, given}
 use Rattle.sync_match.specs.declared.half.Half.{Half}
 use Rattle.sync_match.specs.declared.half.Half.TheVariants as half
@@ -21,8 +21,3 @@ waiting (piece ∷ before) = if is_none (given piece before) then Some piece els
 -- what is kept is the piece that waits
 abbrev pub Remembers : Option Half → List Piece → Type 0
 Remembers kept pieces = option_map piece_of kept ≡ waiting pieces
-
--- the correction of a Sync and its Follow_Up, each of 64 bits, in ns times 65,536
-pub record IsSmall (correction : ℤ) : Type 0 where
-  pub low : neg_ℤ (pos (2 ^ 64)) ≤ℤ correction
-  pub high : correction ≤ℤ pos (2 ^ 64)

@@ -5,6 +5,7 @@ mod half;
 mod pairing;
 
 pub use pairing::Pairing;
+pub use ptp_base::Triple;
 
 #[cfg(test)]
 mod tests;

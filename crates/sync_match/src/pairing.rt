@@ -1,6 +1,7 @@
-ghost use Rattle.std.specs.Prelude.{◌≡◌, ◌+ℤ◌, List, [], ◌∷◌, IfSome};
+ghost use Rattle.std.specs.Prelude.{◌≡◌, pos, ◌^◌, ◌+ℤ◌, List, [], ◌∷◌, IfSome};
+ghost use Rattle.ptp_base.specs.Floor.{IsWithin};
 ghost use Rattle.ptp_profile.specs.Sync.{Piece, Follow_up, given, triple_from};
-ghost use Rattle.sync_match.specs.Waiting.{Remembers, IsSmall, sync_of};
+ghost use Rattle.sync_match.specs.Waiting.{Remembers, sync_of};
 
 use crate::half::Half;
 use ptp_base::Triple;
@@ -9,7 +10,7 @@ use std::marker::Model;
 /// The times of a Sync and its Follow_Up, and the corrections of both (IEEE 1588-2019, 11.2).
 fn joined(precise: i64, arrived: i64, correction: i64, added: i64) -> Triple
     ensures exact { result ≡ triple_from precise arrived (correction +ℤ added) }
-    ensures small { IsSmall result.correction }
+    ensures small { IsWithin (pos (2 ^ 64)) result.correction }
 {
     Triple {
         origin: precise,
@@ -54,7 +55,8 @@ impl Pairing {
     ///
     /// A one-step Sync, where `two_step` is false, gives its times at once. Another one, whose `origin`
     /// does not count, gives them with the Follow_Up of its sequence, if that is kept. In both cases
-    /// nothing is kept then. Else the Sync is kept, in place of what was, and the answer is None.
+    /// nothing is kept then. Else the Sync is kept, in place of what was, and the answer is None. The
+    /// correction of the answer is from -2^64 to 2^64.
     pub fn sync(
         &mut self,
         seq: u16,
@@ -67,7 +69,7 @@ impl Pairing {
             → result ≡ given (sync_of seq two_step origin arrived correction) before }
         ensures kept { (before : List Piece) → Remembers self.old before
             → Remembers self.new (sync_of seq two_step origin arrived correction ∷ before) }
-        ensures small { IfSome result (λ t. IsSmall t.correction) }
+        ensures small { IfSome result (λ t. IsWithin (pos (2 ^ 64)) t.correction) }
     {
         if !two_step {
             self.kept = None;
@@ -103,13 +105,14 @@ impl Pairing {
     /// its Sync was sent, in ns of the master's time, `correction` is in ns times 65,536.
     ///
     /// It gives the times of the Sync of its sequence, if that is kept, and nothing is kept then. Else
-    /// the Follow_Up is kept, in place of what was, and the answer is None.
+    /// the Follow_Up is kept, in place of what was, and the answer is None. The correction of the answer
+    /// is from -2^64 to 2^64.
     pub fn follow_up(&mut self, seq: u16, precise: i64, correction: i64) -> Option<Triple>
         ensures answer { (before : List Piece) → Remembers self.old before
             → result ≡ given (Follow_up seq precise correction) before }
         ensures kept { (before : List Piece) → Remembers self.old before
             → Remembers self.new (Follow_up seq precise correction ∷ before) }
-        ensures small { IfSome result (λ t. IsSmall t.correction) }
+        ensures small { IfSome result (λ t. IsWithin (pos (2 ^ 64)) t.correction) }
     {
         match self.kept {
             Some(

@@ -1,5 +1,4 @@
 use crate::*;
-use ptp_base::Triple;
 use std::test::Fail;
 
 /// A piece of a pair: the sequenceId.

@@ -29,7 +29,7 @@ impl Model for MemSource {
 }
 
 impl MemSource {
-    /// A source of these octets, of which no read fails. It takes no memory.
+    /// A source of these octets, of which no read fails. It does not allocate.
     pub fn new(octets: Vec<u8>) -> MemSource
         ensures { result ≡ record { left = octets.items; most = 2 ^ 64 - 1; calls = 0; failing = []; faults = 0 } }
     {

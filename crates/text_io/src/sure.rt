@@ -25,7 +25,7 @@ impl Model for SureSource {
 }
 
 impl SureSource {
-    /// A source of these octets. It takes no memory.
+    /// A source of these octets. It does not allocate.
     pub fn new(octets: Vec<u8>) -> SureSource
         ensures { result ≡ record { left = octets.items; most = 2 ^ 64 - 1 } }
     {

@@ -1,10 +1,10 @@
 use Rattle.std.proofs.Common.{◌≡◌, pos, ◌^◌, ◌+ℤ◌, ◌-ℤ◌, ◌*ℤ◌, ◌∙◌, arith}
 use Rattle.std.proofs.lemmas.Int.{ints}
-use Rattle.delay_mech.specs.Memory.{IsWithin}
+use Rattle.ptp_base.specs.Floor.{IsWithin}
 use Rattle.delay_mech.proofs.Sums.{sum_is, sum_within, within_64, far_is, far_within}
 use Rattle.delay_mech.proofs.arithmetic.delay_sum.Goals as goal
 
-sum_small : (c : goal.After-less-2) → IsWithin (2 ^ 82) c.less-2.result
+sum_small : (c : goal.After-less-2) → IsWithin (pos (2 ^ 82)) c.less-2.result
 sum_small c =
     let less : c.less.result ≡ c.both-uncorrected.result -ℤ c.args.t.now.correction = omega (arith, ints, c.less.ensures) in
     let end : c.less-2.result ≡ c.less.result -ℤ c.args.correction = omega (arith, ints, c.less-2.ensures, c.from.ensures) in

@@ -1,7 +1,7 @@
 use Rattle.std.proofs.Common.{pos, ◌≡◌, neg_ℤ, ◌-ℤ◌, arith, rules, ◌∙◌, ap, to_z, of_z, w64}
 use Rattle.std.specs.Int.{w128}
 use Rattle.std.proofs.lemmas.Int.{ints, to_z-of_z}
-use Rattle.model_clock.specs.Clock.{IsWithin}
+use Rattle.ptp_base.specs.Floor.{IsWithin}
 use Rattle.ptp_profile.specs.declared.timing.Action.TheVariants.{Locked}
 use Rattle.ptp_profile.specs.Servo.{held_within, limit, wanted}
 use Rattle.pi_servo.specs.Samples.{sample_at}

@@ -1,7 +1,7 @@
 use Rattle.std.proofs.Common.{pos, ◌≡◌, ◌*ℤ◌, arith, rules, sym, subst, to_z, of_z, SFits}
 use Rattle.std.specs.Int.{w128}
 use Rattle.std.proofs.lemmas.Int.{to_z-of_z}
-use Rattle.model_clock.specs.Clock.{IsWithin}
+use Rattle.ptp_base.specs.Floor.{IsWithin}
 use Rattle.pi_servo.proofs.Quotients.{product-few}
 use Rattle.pi_servo.proofs.Words.{fits_wide}
 use Rattle.pi_servo.proofs.estimate.paced.Goals as goal

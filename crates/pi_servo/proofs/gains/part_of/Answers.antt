@@ -1,7 +1,7 @@
 use Rattle.std.proofs.Common.{pos, ◌≡◌, ◌≤ℤ◌, arith, rules, sym, subst, to_z, of_z}
 use Rattle.std.specs.Int.{w128}
 use Rattle.std.proofs.lemmas.Int.{ints, to_z-of_z}
-use Rattle.model_clock.specs.Clock.{IsWithin}
+use Rattle.ptp_base.specs.Floor.{IsWithin}
 use Rattle.ptp_profile.specs.Servo.{part}
 use Rattle.pi_servo.proofs.Parts.{part-few, part-rises, part-falls}
 use Rattle.pi_servo.proofs.gains.part_of.Goals as goal

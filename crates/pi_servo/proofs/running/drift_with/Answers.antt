@@ -1,7 +1,7 @@
 use Rattle.std.proofs.Common.{pos, ◌≡◌, ◌+ℤ◌, true, false, arith, rules, sym, subst, to_z, of_z, w64}
 use Rattle.std.specs.Int.{w128}
 use Rattle.std.proofs.lemmas.Int.{ints, to_z-of_z}
-use Rattle.model_clock.specs.Clock.{IsWithin}
+use Rattle.ptp_base.specs.Floor.{IsWithin}
 use Rattle.ptp_profile.specs.Servo.{limit, part, wanted, passes}
 use Rattle.pi_servo.specs.Samples.{sample_at}
 use Rattle.pi_servo.proofs.Ends.{raised, same_test, chosen_first, chosen_second}

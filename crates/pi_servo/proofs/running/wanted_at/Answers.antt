@@ -1,7 +1,7 @@
 use Rattle.std.proofs.Common.{pos, ◌≡◌, ◌+ℤ◌, arith, rules, to_z, of_z, SFits}
 use Rattle.std.specs.Int.{w128}
 use Rattle.std.proofs.lemmas.Int.{ints, to_z-of_z}
-use Rattle.model_clock.specs.Clock.{IsWithin}
+use Rattle.ptp_base.specs.Floor.{IsWithin}
 use Rattle.ptp_profile.specs.Servo.{part}
 use Rattle.pi_servo.proofs.Words.{fits_wide}
 use Rattle.pi_servo.proofs.running.wanted_at.Goals as goal

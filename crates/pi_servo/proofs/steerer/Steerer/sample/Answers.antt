@@ -39,7 +39,7 @@ returns-clause-answer c = λ conf samples s.
     let other : now.generation ≢ Some c.args.gener = search (rules, c.goes_on.ensures.other c.if-goes_on.false) in
     let begun : Runs c.new-self-inside.result now.conf c.args.freq [] = search (rules, to_z-of_z, conf_is, c.new-self-inside.ensures.begun) in
     let e = c.sample-2.ensures.answer now.conf c.args.freq [] begun c.args.gener c.args.freq in
-    let first : c.sample-2.result ≡ action_after now.conf c.args.freq x [] = search (rules, to_z-of_z, e) in
+    let first : c.sample-2.result ≡ action_after now.conf c.args.freq x [] = search (rules, e) in
     action-new conf x samples now c.sample-2.result s other first
 
 pub returns-clause-steers : goal.returns-clause-steers

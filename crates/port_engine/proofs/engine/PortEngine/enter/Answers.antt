@@ -1,4 +1,4 @@
-use Rattle.std.proofs.Common.{◌≡◌, ◌∙◌, ◌==◌, ap, sym, subst}
+use Rattle.std.proofs.Common.{◌∙◌, ◌==◌, ap, sym, subst}
 use Rattle.ptp_base.specs.declared.port.PortState.{PortState}
 use Rattle.ptp_base.specs.declared.port.PortState.TheVariants.{Uncalibrated}
 use Rattle.ptp_profile.specs.Machine.{next, state_number}

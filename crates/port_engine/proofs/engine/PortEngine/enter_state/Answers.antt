@@ -1,6 +1,5 @@
-use Rattle.std.proofs.Common.{◌≡◌, ◌∙◌, ap, inl, inr}
+use Rattle.std.proofs.Common.{◌∙◌, ap, inl, inr}
 use Rattle.ptp_base.specs.declared.port.PortConf.{PortConf}
-use Rattle.ptp_base.specs.declared.port.PortState.TheVariants.{PreMaster, Master}
 use Rattle.ptp_profile.specs.Timers.{waiting_timers, sending_timers, qualifying_timers, qualification_of}
 use Rattle.port_engine.proofs.States.{conf_of, with_timers}
 use Rattle.port_engine.proofs.engine.PortEngine.enter_state.Goals as goal

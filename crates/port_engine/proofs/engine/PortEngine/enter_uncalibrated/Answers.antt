@@ -1,9 +1,8 @@
-use Rattle.std.proofs.Common.{◌≡◌, ◌∙◌, ap}
+use Rattle.std.proofs.Common.{◌∙◌, ap}
 use Rattle.ptp_base.specs.declared.port.PortConf.{PortConf}
 use Rattle.ptp_base.specs.declared.port.PortState.TheVariants.{Uncalibrated}
 use Rattle.ptp_profile.specs.Port.{cleared}
 use Rattle.ptp_profile.specs.Timers.{following_timers}
-use Rattle.port_engine.specs.Engine.{Engine}
 use Rattle.port_engine.proofs.States.{conf_of, with_timers}
 use Rattle.port_engine.proofs.engine.PortEngine.enter_uncalibrated.Goals as goal
 

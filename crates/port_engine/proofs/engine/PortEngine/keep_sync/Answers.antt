@@ -1,4 +1,4 @@
-use Rattle.std.proofs.Common.{rules, ◌≡◌, sym, subst}
+use Rattle.std.proofs.Common.{rules, sym, subst}
 use Rattle.std.proofs.lemmas.Int.{to_z-of_z}
 use Rattle.port_engine.specs.Engine.{Engine, IsEngineOf}
 use Rattle.port_engine.proofs.Timing.{sync_found, sync_kept, with_pairing}

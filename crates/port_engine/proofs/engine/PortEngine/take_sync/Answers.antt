@@ -1,4 +1,4 @@
-use Rattle.std.proofs.Common.{rules, ◌≡◌, ◌∙◌, ap, sym, subst, ℤ, w64}
+use Rattle.std.proofs.Common.{rules, ◌∙◌, ap, sym, subst, ℤ, w64}
 use Rattle.std.proofs.lemmas.Int.{to_z-of_z}
 use Rattle.ptp_profile.specs.Port.{triple_of, with_piece, paired_fate}
 use Rattle.port_engine.specs.Engine.{IsEngineOf}

@@ -1,5 +1,4 @@
-use Rattle.std.proofs.Common.{◌≡◌, ◌≤◌, length, arith, ap}
-use Rattle.ptp_profile.specs.Wire.{written}
+use Rattle.std.proofs.Common.{arith, ap}
 use Rattle.ptp_base.specs.Room.{Reserved}
 use Rattle.std.specs.Prelude.{ℕ}
 use Rattle.port_engine.proofs.Lengths.{written_fits}
