@@ -1,9 +1,14 @@
+pub mod CoreInvariants
 pub mod States
-pub mod Following
-pub mod Faces
+pub mod PortSteps
+pub mod PortIdentities
+pub mod OneFollows
+pub mod Generations
+pub mod EffectKinds
+pub mod FinishedTest
 pub mod Ends
 pub mod Exchanges
-pub mod Histories
+pub mod Moments
 pub mod Texts
 pub mod OptionLaws
 pub mod RuleOptions

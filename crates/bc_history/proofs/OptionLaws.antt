@@ -3,7 +3,8 @@ use Rattle.std.proofs.Common.{◌≡◌, Some, refl}
 use Rattle.ptp_base.specs.declared.port.PortConf.{PortConf}
 use Rattle.model_clock.specs.declared.state.ClockState.{ClockState}
 use Rattle.bc_history.specs.OptionTable.{row_of, option_named, with_defaults, with_port_defaults, with_clock_defaults}
-use Rattle.bc_history.specs.Silent.{default_options, plain_port, plain_clock}
+use Rattle.bc_history.specs.Silent.{default_options, plain_port}
+use Rattle.model_clock.specs.Clock.{plain_clock}
 use Rattle.bc_history.specs.declared.option.OptionName.{OptionName}
 use Rattle.bc_history.specs.declared.option.OptionName.TheVariants.{ClockIdentity, DomainNumber, Priority1, Priority2, ClockClass, ClockAccuracy, OffsetScaledLogVariance, UtcOffset, TimeFlags, TimeSource, BoundaryClockJbod, MaxFrequency, StepThreshold, FirstStepThreshold, ServoKp, ServoKi, DelayFilterLength, Duration, Window, FollowInterval, SubscribeDuration, SubscribeRenew, SeatRows, LogAnnounceInterval, LogSyncInterval, LogMinDelayReqInterval, AnnounceReceiptTimeout, Time, Drift}
 use Rattle.bc_history.specs.declared.scenario.Options.{Options}

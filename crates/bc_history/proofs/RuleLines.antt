@@ -20,7 +20,9 @@ use Rattle.bc_history.specs.declared.scenario.Turns.{Turns}
 use Rattle.bc_history.specs.declared.scenario.Turner.{Turner}
 use Rattle.bc_history.specs.declared.scenario.Turner.TheVariants.{Default, Port, Clock, Queries}
 use Rattle.bc_history.specs.Headers.{is_word}
-use Rattle.bc_history.specs.Lines.{is_port, is_follower, frame_of, happening_of, record_in, record_of, former_tick, is_early_record, frame_length, last_tick, longest_frame, longest_query, query_of, former_query, is_early_query, count_of, turns_by, turner_of, turns_of}
+use Rattle.bc_history.specs.Lines.{is_port, is_follower, frame_of, happening_of, record_in, record_of, former_tick, is_early_record, frame_length, query_of, former_query, is_early_query, count_of, turns_by, turner_of, turns_of}
+use Rattle.ptp_base.specs.declared.number.TheConstants.{TICK_MAX}
+use Rattle.ptp_base.specs.declared.limits.TheConstants.{FRAME_MAX, QUERY_MAX}
 use Rattle.bc_history.specs.ScenarioText.{is_lost, is_great_record, is_great_query}
 use Rattle.bc_history.specs.ScenarioRules.{IsFrom, IsHappening, IsRecordOf, IsRecordBefore, IsQuery, IsQueryBefore, IsTurnerOf, AreTurnsOf}
 use Rattle.bc_history.proofs.RuleLists.{last_of_push}
@@ -78,8 +80,8 @@ found_record ports records tick port what (Some t) (Some p) None et ep some earl
 found_record ports records tick port what (Some t) (Some p) (Some w) et ep some early lost great =
     let there : is_port ports p ≡ true = not-false (is_port ports p) lost in
     let late : (is_port ports p && nat_lt t (former_tick records p)) ≡ false = rw (et, ep) at early in
-    let few : (nat_lt last_tick t ≡ false) × (nat_lt longest_frame (frame_length w) ≡ false) = or_parts (nat_lt last_tick t) (nat_lt longest_frame (frame_length w)) great in (
-      record { port = port_there ports p there; tick = ltb-false last_tick t few.0; what = short w some (ltb-false longest_frame (frame_length w) few.1) },
+    let few : (nat_lt TICK_MAX t ≡ false) × (nat_lt FRAME_MAX (frame_length w) ≡ false) = or_parts (nat_lt TICK_MAX t) (nat_lt FRAME_MAX (frame_length w)) great in (
+      record { port = port_there ports p there; tick = ltb-false TICK_MAX t few.0; what = short w some (ltb-false FRAME_MAX (frame_length w) few.1) },
       ltb-false t (former_tick records p) (not_early (is_port ports p) (nat_lt t (former_tick records p)) late there),
     )
 
@@ -143,8 +145,8 @@ found_query : (queries : List Asked) (tick word : List ℕ) (words : List (List 
 found_query queries tick word words None e some early great = tt
 found_query queries tick word words (Some t) e some early great =
     let late : nat_lt t (former_query queries) ≡ false = rw e at early in
-    let few : (nat_lt last_tick t ≡ false) × (nat_lt longest_query (length (join_with_byte 32 (word ∷ words))) ≡ false) = or_parts (nat_lt last_tick t) (nat_lt longest_query (length (join_with_byte 32 (word ∷ words)))) great in
-    (record { tick = ltb-false last_tick t few.0; text = (join_filled word words some, ltb-false longest_query (length (join_with_byte 32 (word ∷ words))) few.1) }, ltb-false t (former_query queries) late)
+    let few : (nat_lt TICK_MAX t ≡ false) × (nat_lt QUERY_MAX (length (join_with_byte 32 (word ∷ words))) ≡ false) = or_parts (nat_lt TICK_MAX t) (nat_lt QUERY_MAX (length (join_with_byte 32 (word ∷ words)))) great in
+    (record { tick = ltb-false TICK_MAX t few.0; text = (join_filled word words some, ltb-false QUERY_MAX (length (join_with_byte 32 (word ∷ words))) few.1) }, ltb-false t (former_query queries) late)
 
 pub next_query : (queries : List Asked) (words : List (List ℕ)) → All (λ (word : List ℕ). 1 ≤ length word) words → is_early_query queries words ≡ false → is_great_query (query_of words) ≡ false → IfSome (query_of words) (IsNextQuery queries)
 next_query queries [] some early great = tt

@@ -5,7 +5,7 @@ use Rattle.std.proofs.lemmas.Bool.{and_parts}
 use Rattle.std.proofs.lemmas.Int.{ints}
 use Rattle.ptp_base.specs.declared.port.PortConf.{PortConf}
 use Rattle.model_clock.specs.declared.state.ClockState.{ClockState}
-use Rattle.model_clock.specs.Clock.{IsWithin}
+use Rattle.ptp_base.specs.Floor.{IsWithin}
 use Rattle.bc_history.specs.declared.scenario.Options.{Options}
 use Rattle.bc_history.specs.declared.option.OptionName.{OptionName}
 use Rattle.bc_history.specs.declared.option.OptionName.TheVariants.{ClockIdentity, DomainNumber, Priority1, Priority2, ClockClass, ClockAccuracy, OffsetScaledLogVariance, UtcOffset, TimeFlags, TimeSource, BoundaryClockJbod, MaxFrequency, StepThreshold, FirstStepThreshold, ServoKp, ServoKi, DelayFilterLength, Duration, Window, FollowInterval, SubscribeDuration, SubscribeRenew, SeatRows, LogAnnounceInterval, LogSyncInterval, LogMinDelayReqInterval, AnnounceReceiptTimeout, Time, Drift}

@@ -28,7 +28,7 @@ use Rattle.bc_history.specs.declared.scenario.Asked.{Asked}
 use Rattle.bc_history.specs.declared.scenario.Scenario.{Scenario}
 use Rattle.bc_history.specs.OptionTable.{is_in_range, in_range, read_as, row_of, with_port_option, with_clock_option}
 use Rattle.bc_history.specs.Headers.{header_of, place_of, may_repeat, may_follow}
-use Rattle.bc_history.specs.Silent.{plain_clock}
+use Rattle.model_clock.specs.Clock.{plain_clock}
 use Rattle.bc_history.specs.Drafts.{Draft, empty_draft, with_last, clocks_of, scenario_of}
 use Rattle.bc_history.specs.Lines.{is_clock, record_of, is_early_record, query_of, is_early_query, turns_of}
 use Rattle.bc_history.specs.ScenarioText.{first_of, is_misplaced, is_on_another, breaks_jbod, sole_tests, header_tests, setting_of, option_of, is_lost, is_great_record, is_great_query, record_tests, query_tests, tests_of, header_role, inner_role, role_of, with_header, with_setting, with_set, with_option_line, and_one, with_role, with_line, draft_of, fault, end_fault, fault_behind, fault_at, Stands}

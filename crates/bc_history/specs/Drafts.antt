@@ -9,7 +9,8 @@ use Rattle.bc_history.specs.declared.scenario.Turns.{Turns}
 use Rattle.bc_history.specs.declared.scenario.Scenario.{Scenario}
 use Rattle.bc_history.specs.declared.section.Section.{Section}
 use Rattle.bc_history.specs.declared.option.OptionName.{OptionName}
-use Rattle.bc_history.specs.Silent.{default_options, plain_clock, plain_port}
+use Rattle.bc_history.specs.Silent.{default_options, plain_port}
+use Rattle.model_clock.specs.Clock.{plain_clock}
 
 pub record Draft : Type 0 where
   -- the section in force

@@ -1,5 +1,5 @@
 -- What an entry tells: its effects, field by field.
-use Rattle.std.specs.Prelude.{ℕ, ℤ, ◌+◌, Bool, true, false, ◌==◌, if◌then◌else◌, List, [], ◌∷◌, ◌++◌, map, flat_map, Option, Some, None, option_map, option_to_list, option_and_then, slice_get, Result, Ok, Err}
+use Rattle.std.specs.Prelude.{ℕ, ℤ, ◌+◌, Bool, true, false, ◌==◌, if◌then◌else◌, List, [], ◌∷◌, ◌++◌, map, flat_map, Option, Some, None, option_map, option_to_list, slice_get, Result, Ok, Err}
 use Rattle.ptp_base.specs.declared.identity.PortId.{PortId}
 use Rattle.ptp_base.specs.declared.port.PortState.{PortState}
 use Rattle.ptp_profile.specs.declared.port.Fate.{Fate}
@@ -22,12 +22,16 @@ use Rattle.bc_history.specs.declared.entry.Entry.{Entry}
 use Rattle.bc_history.specs.declared.entry.Effects.{Effects}
 use Rattle.bc_history.specs.declared.scenario.Options.{Options}
 use Rattle.bc_history.specs.declared.scenario.Scenario.{Scenario}
-use Rattle.bc_history.specs.Inputs.{port_of, port_at, value_of}
-use Rattle.bc_history.specs.Own.{owned, fate_at, read_frame}
-use Rattle.bc_history.specs.Generations.{states_of, generation, orders_now}
-use Rattle.bc_history.specs.Telling.{announced, told_at, notice_for}
-use Rattle.bc_history.specs.Step.{core_after, measure_at, state_of}
+use Rattle.bc_history.specs.declared.port_input.PortHappening.{PortHappening}
+use Rattle.bc_history.specs.declared.port_input.PortHappening.TheVariants.{Frame as Frame_here, Timed as Timed_here, Down as Down_here, Up as Up_here, Report as Report_here}
+use Rattle.bc_history.specs.Inputs.{port_at}
+use Rattle.bc_history.specs.PortPhase.{fate_at, read_frame}
+use Rattle.bc_history.specs.RolePhase.{states_of, orders_now}
+use Rattle.bc_history.specs.NoticePhase.{told_at, notice_for}
+use Rattle.bc_history.specs.QueryAnswers.{asked_at, answers_at}
+use Rattle.bc_history.specs.Step.{port_entry, core_before, core_between, core_after, roles_after, followers_between, measure_at, state_of}
 use Rattle.bc_history.specs.State.{Event, HubPort, Follower, Core, Roles, State}
+use Rattle.bc_history.specs.declared.port_input.PortEntry.{PortEntry}
 
 -- how port p moved
 abbrev pub moved : ℕ → PortState → PortState → List Moved
@@ -54,20 +58,22 @@ abbrev pub is_answered : Option Fate → Bool
 is_answered (Some Answered) = true
 is_answered _ = false
 
--- the messages that the entry's port sends, with the data sets and the port before the entry
-abbrev pub messages_by : Options → Option Fate → Master → ℤ → Input → Port → List Message
-messages_by o fate master seen (Timed port tick timer) p = if is_set_for timer tick p then timer_messages o.domain_number master seen timer p else []
-messages_by o fate master seen (Frame port tick octets) p = if is_answered fate then response o.domain_number seen (read_frame o octets) p else []
-messages_by o fate master seen (Down port tick) p = []
-messages_by o fate master seen (Up port tick) p = []
-messages_by o fate master seen (Report port tick gener action outcome) p = []
-messages_by o fate master seen (Turn clock tick) p = []
-messages_by o fate master seen (Sampled clock tick lead theirs own action outcome) p = []
-messages_by o fate master seen (Query tick text) p = []
+-- the messages that a port sends at an input of this fate, with the data sets and the port before the entry, and the reading
+abbrev pub messages_of : Options → Option Fate → Master → ℤ → ℕ → PortHappening → Port → List Message
+messages_of o fate master reading tick (Timed_here timer) p =
+    if is_set_for timer tick p then timer_messages o.domain_number master reading timer p else []
+messages_of o fate master reading tick (Frame_here octets) p =
+    if is_answered fate then response o.domain_number reading (read_frame o octets) p else []
+messages_of o fate master reading tick Down_here p = []
+messages_of o fate master reading tick Up_here p = []
+messages_of o fate master reading tick (Report_here gener action outcome) p = []
 
--- the frames of an entry
-abbrev pub frames_at : Options → Event → Core → List Sent
-frames_at o e c = flat_map (λ (h : HubPort). map (sent h.port.id.port) (messages_by o (fate_at o e c) c.master (value_of e.seen) e.input h.port)) (option_to_list (option_and_then (port_at c.ports) (port_of e.input)))
+-- the frames of a port's entry; the data sets and the ports are those before it
+abbrev pub frames_at : Options → PortEntry → Core → List Sent
+frames_at o e c = flat_map sent_by (option_to_list (port_at c.ports e.input.number))
+  where
+    sent_by : HubPort → List Sent
+    sent_by h = map (sent h.port.id.port) (messages_of o (fate_at o e c) c.master e.reading e.input.tick e.input.what h.port)
 
 -- what a turn tells
 abbrev pub told_by : Options → Core → Roles → Input → List Follower → Option Told
@@ -80,18 +86,27 @@ told_by o c r (Report port tick gener action outcome) fs = None
 told_by o c r (Sampled clock tick lead theirs own action outcome) fs = None
 told_by o c r (Query tick text) fs = None
 
--- the effects of an entry after a history that gave h; queries have none yet
+-- the fate of an entry's frame, and the frames that it sends: those of its port, where it has one
+abbrev pub entry_fate : Options → Option PortEntry → Core → Option Fate
+entry_fate o None c = None
+entry_fate o (Some e) c = fate_at o e c
+
+abbrev pub entry_frames : Options → Option PortEntry → Core → List Sent
+entry_frames o None c = []
+entry_frames o (Some e) c = frames_at o e c
+
+-- the effects of an entry after a history that gave h
 unfoldable pub effects_of : Options → State → Event → Effects
 effects_of o h e = record {
-  fate = fate_at o e h.core;
-  states = moves_from 1 (states_of h.core.ports) (states_of (owned o h.roles.orders e h.core).ports) (states_of (core_after o h e).ports);
+  fate = entry_fate o (port_entry h e) (core_before h e);
+  states = moves_from 1 (states_of h.core.ports) (states_of (core_between o h e).ports) (states_of (core_after o h e).ports);
   parent = changed_parent h.core.master.parent (core_after o h e).master.parent;
   orders = orders_now (core_after o h e) h.roles;
   measure = measure_at e (core_after o h e).ports;
-  frames = frames_at o e h.core;
-  told = told_by o (core_after o h e) (generation (core_after o h e) h.roles) e.input (announced o (core_after o h e) h.roles (generation (core_after o h e) h.roles) h.followers);
-  asked = None;
-  answers = [];
+  frames = entry_frames o (port_entry h e) (core_before h e);
+  told = told_by o (core_after o h e) (roles_after o h e) e.input (followers_between o h e);
+  asked = asked_at e.input;
+  answers = answers_at o h e.input;
 }
 
 abbrev pub event : Input → Option Seen → Event

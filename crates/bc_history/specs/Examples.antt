@@ -1,5 +1,5 @@
 -- Scenarios and frames of the worked examples.
-use Rattle.std.specs.Prelude.{ℕ, pos, List, [], ◌∷◌, ◌+◌, ◌++◌, map, flat_map, filter_map, option_map, length, take, ◌*◌, Option, Some, None, true}
+use Rattle.std.specs.Prelude.{ℕ, pos, List, [], ◌∷◌, ◌+◌, ◌++◌, map, flat_map, filter_map, option_map, length, reverse, take, drop, ◌*◌, codes, filter, option_to_list, slice_get, slice_index, Option, Some, None, true}
 use Rattle.ptp_base.specs.declared.port.PortState.{PortState}
 use Rattle.ptp_base.specs.declared.port.PortState.TheVariants.{Listening, Master}
 use Rattle.ptp_profile.specs.declared.port.Timer.TheVariants.{AnnounceReceipt}
@@ -10,10 +10,18 @@ use Rattle.bc_history.specs.declared.entry.Run.{Run}
 use Rattle.bc_history.specs.declared.entry.Moved.{Moved}
 use Rattle.ptp_profile.specs.declared.roles.RoleOrder.{RoleOrder}
 use Rattle.ptp_profile.specs.declared.seats.LogEntry.{LogEntry}
+use Rattle.ptp_profile.specs.declared.management.Managed.{Managed}
+use Rattle.ptp_profile.specs.declared.management.Tlv.{Tlv}
+use Rattle.ptp_profile.specs.declared.management.Tlv.TheVariants.{Management, Error}
+use Rattle.ptp_profile.specs.Management.{managed_read}
+use Rattle.bc_history.specs.declared.entry.Effects.{Effects}
+use Rattle.bc_history.specs.declared.scenario.Asked.{Asked}
 use Rattle.bc_history.specs.declared.scenario.Record.{Record}
+use Rattle.bc_history.specs.EffectKinds.{is_query}
 use Rattle.bc_history.specs.declared.scenario.Turner.TheVariants.{Default, Port as Port_turn}
 use Rattle.bc_history.specs.declared.scenario.Happening.TheVariants.{Frame as Frame_record, Down as Down_record}
-use Rattle.bc_history.specs.Silent.{default_options, plain_clock, plain_port}
+use Rattle.bc_history.specs.Silent.{default_options, plain_port, silent}
+use Rattle.model_clock.specs.Clock.{plain_clock}
 use Rattle.bc_history.specs.World.{Status, Going, Ended, Finished, Not_due, Events, status_after}
 use Rattle.bc_history.specs.declared.entry.Input.{Input}
 use Rattle.bc_history.specs.declared.entry.Input.TheVariants.{Frame, Timed, Down, Up, Report, Turn, Sampled, Query}
@@ -249,3 +257,54 @@ responds_twice = record on_one_clock {
   records = frame_at 1 1000000000 (announce_frame 0) ∷ frame_at 1 3000000000 (announce_frame 1) ∷ frame_at 1 4100000000 response_frame ∷ frame_at 1 4100000000 response_frame ∷ [];
   options = record default_options { duration = 5000000000 };
 }
+
+-- the entries of the run that a scenario ended with, the oldest first; none where it goes on
+abbrev pub entries_of : Option Run → List Entry
+entries_of None = []
+entries_of (Some run) = run.entries
+
+abbrev pub entries_after : Scenario → ℕ → List Entry
+entries_after s turns = entries_of (finished_run (status_after s turns))
+
+-- the same, the newest first, without as many of the newest
+abbrev pub history_before : ℕ → Scenario → ℕ → List Entry
+history_before less s turns = drop less (reverse (entries_after s turns))
+
+-- ---- queries
+
+-- two ports that hear nothing for 6 s, and six lines of queries then
+abbrev pub queried : Scenario
+queried = record (silent 6 2) { queries = map (λ (text : List ℕ). let q : Asked = record { tick = 6000000000; text = text } in q) texts }
+  where
+    texts : List (List ℕ)
+    texts =
+        codes "GET PRIORITY1" ∷ codes "GET PORT_DATA_SET" ∷ codes "GET PORT_DATA_SET 9" ∷ codes "GET NOTHING"
+        ∷ codes "SET PRIORITY1 1" ∷ codes "GET PORT_DATA_SET x" ∷ []
+
+-- what its run tells of each query, by 9 turns
+abbrev pub query_effects : List Effects
+query_effects = map (λ (e : Entry). e.effects) (filter (λ (e : Entry). is_query e.input) (entries_after queried 9))
+
+-- the answers to the query of an index
+abbrev pub answers_to_query : ℕ → List (List ℕ)
+answers_to_query n = flat_map (λ (f : Effects). f.answers) (option_to_list (slice_get query_effects n))
+
+-- the answer to the first, in hex
+abbrev pub priority_hex : List ℕ
+priority_hex = codes "0d12003800000000000000000000000000000000020000fffe00000100000000047f00000000000000000001000002000001000420058000"
+
+-- a response of a port: the port, the sequence, and portState
+pub record PortAnswer : Type 0 where
+  pub port : ℕ
+  pub seq : ℕ
+  pub state : ℕ
+
+abbrev pub port_answer : List ℕ → Option PortAnswer
+port_answer octets = option_map of (managed_read 0 octets)
+  where
+    state_in : Tlv → ℕ
+    state_in (Management id values) = slice_index values 10
+    state_in (Error error id) = 0
+
+    of : Managed → PortAnswer
+    of m = record { port = m.sender.port; seq = m.seq; state = state_in m.tlv }

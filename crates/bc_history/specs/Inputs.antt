@@ -4,6 +4,9 @@ use Rattle.bc_history.specs.declared.entry.Input.{Input}
 use Rattle.bc_history.specs.declared.entry.Input.TheVariants.{Frame, Timed, Down, Up, Report, Turn, Sampled, Query}
 use Rattle.bc_history.specs.declared.entry.Seen.{Seen}
 use Rattle.bc_history.specs.declared.entry.Entry.{Entry}
+use Rattle.bc_history.specs.declared.port_input.PortInput.{PortInput}
+use Rattle.bc_history.specs.declared.port_input.PortHappening.{PortHappening}
+use Rattle.bc_history.specs.declared.port_input.PortHappening.TheVariants.{Frame as Frame_arrives, Timed as Timer_fires, Down as Goes_down, Up as Comes_up, Report as Reports}
 use Rattle.bc_history.specs.State.{Event}
 
 abbrev pub tick_of : Input → ℕ
@@ -26,6 +29,29 @@ port_of (Report port tick gener action outcome) = Some port
 port_of (Turn clock tick) = None
 port_of (Sampled clock tick lead theirs own action outcome) = None
 port_of (Query tick text) = None
+
+-- the same as a port's own input, where it is one
+abbrev pub port_input : Input → Option PortInput
+port_input (Frame port tick octets) = Some (record { number = port; tick = tick; what = Frame_arrives octets })
+port_input (Timed port tick timer) = Some (record { number = port; tick = tick; what = Timer_fires timer })
+port_input (Down port tick) = Some (record { number = port; tick = tick; what = Goes_down })
+port_input (Up port tick) = Some (record { number = port; tick = tick; what = Comes_up })
+port_input (Report port tick gener action outcome) = Some (record { number = port; tick = tick; what = Reports gener action outcome })
+port_input (Turn clock tick) = None
+port_input (Sampled clock tick lead theirs own action outcome) = None
+port_input (Query tick text) = None
+
+-- what happens to a port, as an input of the history
+abbrev pub input_with : ℕ → ℕ → PortHappening → Input
+input_with port tick (Frame_arrives octets) = Frame port tick octets
+input_with port tick (Timer_fires timer) = Timed port tick timer
+input_with port tick Goes_down = Down port tick
+input_with port tick Comes_up = Up port tick
+input_with port tick (Reports gener action outcome) = Report port tick gener action outcome
+
+-- a port's own input, as one of the history
+abbrev pub history_input : PortInput → Input
+history_input p = input_with p.number p.tick p.what
 
 -- a frame and a timer come with a reading of the port's clock
 abbrev pub is_read : Input → Bool
@@ -57,11 +83,10 @@ changed_at change i [] = []
 changed_at change zero (x ∷ xs) = change x ∷ xs
 changed_at change (suc i) (x ∷ xs) = x ∷ changed_at change i xs
 
--- the port of a number is changed, where an input is of a port
-abbrev pub at_port : {X : Type 0} → (X → X) → Option ℕ → List X → List X
-at_port change None ports = ports
-at_port change (Some zero) ports = ports
-at_port change (Some (suc i)) ports = changed_at change i ports
+-- port p, counted from 1, is changed, where it is there
+abbrev pub at_port : {X : Type 0} → (X → X) → ℕ → List X → List X
+at_port change zero ports = ports
+at_port change (suc i) ports = changed_at change i ports
 
 -- there is a value, and it passes the test
 abbrev pub holds : {X : Type 0} → (X → Bool) → Option X → Bool

@@ -16,16 +16,7 @@ use Rattle.bc_history.specs.declared.scenario.Turner.TheVariants.{Default, Port,
 use Rattle.bc_history.specs.Headers.{is_word}
 use Rattle.bc_history.specs.Drafts.{clocks_of}
 
--- the latest tick that a line may have, the longest frame and the longest query, in octets, and the most turns of a line
-abbrev pub last_tick : ℕ
-last_tick = 100000000000000
-
-abbrev pub longest_frame : ℕ
-longest_frame = 1500
-
-abbrev pub longest_query : ℕ
-longest_query = 100
-
+-- the most turns of a line
 abbrev pub most_turns : ℕ
 most_turns = 1000000
 

@@ -10,7 +10,7 @@ use Rattle.bc_history.specs.declared.scenario.Asked.{Asked}
 use Rattle.bc_history.specs.declared.scenario.Happening.{Happening}
 use Rattle.bc_history.specs.declared.scenario.Happening.TheVariants.{Frame as Frame_record, Down as Down_record, Up as Up_record}
 use Rattle.bc_history.specs.Inputs.{port_at, tick_of}
-use Rattle.bc_history.specs.State.{HubPort, Follower, State}
+use Rattle.bc_history.specs.State.{TickMeasure, HubPort, Follower, State}
 
 -- the records of a port, in their order
 abbrev pub records_of : Scenario → ℕ → List Record
@@ -30,8 +30,8 @@ record_or_timer p None (Some t) = Some (Timed p t.0 t.1)
 record_or_timer p (Some r) (Some t) = if nat_lt t.0 r.tick then Some (Timed p t.0 t.1) else Some (input_of p r.tick r.what)
 
 -- the next record or timer of a port
-abbrev pub port_input : Scenario → HubPort → Option Input
-port_input s h = record_or_timer h.port.id.port (slice_get (records_of s h.port.id.port) h.taken) (due_of h.port.timers)
+abbrev pub next_input : Scenario → HubPort → Option Input
+next_input s h = record_or_timer h.port.id.port (slice_get (records_of s h.port.id.port) h.taken) (due_of h.port.timers)
 
 -- the tick of a follower's next turn: turns are at the multiples of the interval, from 1 on
 abbrev pub turn_tick : Scenario → Follower → ℕ
@@ -43,11 +43,11 @@ query_input s h = slice_get s.queries h.queries
 
 -- a port whose last entry gave no measure goes on with its records and timers
 abbrev pub IsNextOf : Scenario → Option HubPort → Input → Type 0
-IsNextOf s port input = IsSomeAnd port (λ h. (h.measured ≡ None) × (port_input s h ≡ Some input))
+IsNextOf s port input = IsSomeAnd port (λ h. (h.measured ≡ None) × (next_input s h ≡ Some input))
 
 -- a port whose last entry gave a measure reports: at that entry's tick, under that measure's generation; the action and the outcome are open
 abbrev pub IsReportOf : Option HubPort → ℕ → ℕ → Type 0
-IsReportOf port tick gener = IsSomeAnd port (λ h. IsSomeAnd h.measured (λ m. (m.0 ≡ tick) × (m.1.1.gener ≡ gener)))
+IsReportOf port tick gener = IsSomeAnd port (λ h. IsSomeAnd h.measured (λ (m : TickMeasure). (m.tick ≡ tick) × (m.held.gener ≡ gener)))
 
 -- the input is the next one of its actor
 abbrev pub IsNext : Scenario → State → Input → Type 0
@@ -57,7 +57,7 @@ IsNext s h (Down port tick) = IsNextOf s (port_at h.core.ports port) (Down port 
 IsNext s h (Up port tick) = IsNextOf s (port_at h.core.ports port) (Up port tick)
 IsNext s h (Report port tick gener action outcome) = IsReportOf (port_at h.core.ports port) tick gener
 IsNext s h (Turn clock tick) = IsSomeAnd (slice_get h.followers clock) (λ f. (f.leading ≡ None) × (tick ≡ turn_tick s f))
-IsNext s h (Sampled clock tick lead theirs own action outcome) = IsSomeAnd (slice_get h.followers clock) (λ f. f.leading ≡ Some (tick, lead))
+IsNext s h (Sampled clock tick lead theirs own action outcome) = IsSomeAnd (slice_get h.followers clock) (λ f. f.leading ≡ Some (record { tick = tick; lead = lead }))
 IsNext s h (Query tick text) = query_input s h ≡ Some (record { tick = tick; text = text })
 
 -- a next input is due up to the end of the run

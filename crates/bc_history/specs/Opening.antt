@@ -1,5 +1,5 @@
 -- What stands before the first entry.
-use Rattle.std.specs.Prelude.{ℕ, ◌+◌, List, [], ◌∷◌, length, replicate, None, false}
+use Rattle.std.specs.Prelude.{ℕ, ◌+◌, List, [], ◌∷◌, length, replicate, nat_le, if◌then◌else◌, None, false}
 use Rattle.ptp_base.specs.declared.identity.PortId.{PortId}
 use Rattle.ptp_base.specs.declared.announcement.Announcement.{Announcement}
 use Rattle.ptp_base.specs.declared.announcement.Quality.{Quality}
@@ -44,12 +44,17 @@ open_ports o p (conf ∷ confs) = open_hub_port o p conf ∷ open_ports o (p + 1
 abbrev pub open_follower : Follower
 open_follower = record { turns = 0; subscribed = None; last = None; put = 0; leading = None }
 
+-- a follower exists for each clock exactly where there are two clocks or more (own)
+abbrev pub follower_count : Scenario → ℕ
+follower_count s = if nat_le 2 (length s.clocks) then length s.clocks else 0
+
 -- every port in LISTENING, the own clock as master, no edges and no orders
 abbrev pub opening : Scenario → State
 opening s = record {
   core = record { moment = 0; ports = open_ports s.options 1 s.ports; master = own_master (own_of s.options) };
   roles = record { edges = replicate (length s.clocks) None; gener = 0; orders = [] };
   measured = None;
-  followers = replicate (length s.clocks) open_follower;
+  followers = replicate (follower_count s) open_follower;
   queries = 0;
+  requests = 0;
 }

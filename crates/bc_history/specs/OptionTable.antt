@@ -5,6 +5,8 @@ use Rattle.std.specs.Cmp.Lexicographic.{pointwise}
 use Rattle.std.specs.List.{find, fold}
 use Rattle.std.specs.Option.{option_map, option_or}
 use Rattle.text_io.specs.Numerals.{number_of, signed_of, hex_of, seconds_of, identity_of}
+use Rattle.ptp_base.specs.declared.limits.TheConstants.{DELAYS_MAX, ROWS_MAX}
+use Rattle.ptp_base.specs.declared.number.TheConstants.{TICK_MAX, TIME_MAX}
 use Rattle.ptp_base.specs.declared.port.PortConf.{PortConf}
 use Rattle.model_clock.specs.declared.state.ClockState.{ClockState}
 use Rattle.bc_history.specs.declared.scenario.Options.{Options}
@@ -46,18 +48,18 @@ row_of StepThreshold = row Global (codes "step_threshold") Seconds (pos 0) (pos 
 row_of FirstStepThreshold = row Global (codes "first_step_threshold") Seconds (pos 0) (pos 1000000000000000) (pos 20000)
 row_of ServoKp = row Global (codes "servo_kp") Decimal (pos 0) (pos 10000) (pos 700)
 row_of ServoKi = row Global (codes "servo_ki") Decimal (pos 0) (pos 10000) (pos 300)
-row_of DelayFilterLength = row Global (codes "delay_filter_length") Decimal (pos 1) (pos 32) (pos 10)
-row_of Duration = row Global (codes "duration") Seconds (pos 0) (pos 100000000000000) (pos 20000000000)
+row_of DelayFilterLength = row Global (codes "delay_filter_length") Decimal (pos 1) (pos DELAYS_MAX) (pos 10)
+row_of Duration = row Global (codes "duration") Seconds (pos 0) (pos TICK_MAX) (pos 20000000000)
 row_of Window = row Global (codes "window") Seconds (pos 1000000) (pos 1000000000000) (pos 125000000)
 row_of FollowInterval = row Global (codes "follow_interval") Seconds (pos 10000000) (pos 1000000000000) (pos 1000000000)
-row_of SubscribeDuration = row Global (codes "subscribe_duration") Seconds (pos 0) (pos 100000000000000) (pos 180000000000)
-row_of SubscribeRenew = row Global (codes "subscribe_renew") Seconds (pos 0) (pos 100000000000000) (pos 60000000000)
-row_of SeatRows = row Global (codes "seat_rows") Decimal (pos 1) (pos 262143) (pos 65536)
+row_of SubscribeDuration = row Global (codes "subscribe_duration") Seconds (pos 0) (pos TICK_MAX) (pos 180000000000)
+row_of SubscribeRenew = row Global (codes "subscribe_renew") Seconds (pos 0) (pos TICK_MAX) (pos 60000000000)
+row_of SeatRows = row Global (codes "seat_rows") Decimal (pos 1) (pos ROWS_MAX) (pos 65536)
 row_of LogAnnounceInterval = row Port (codes "logAnnounceInterval") Signed (negsuc 6) (pos 10) (pos 1)
 row_of LogSyncInterval = row Port (codes "logSyncInterval") Signed (negsuc 6) (pos 10) (pos 0)
 row_of LogMinDelayReqInterval = row Port (codes "logMinDelayReqInterval") Signed (negsuc 6) (pos 10) (pos 0)
 row_of AnnounceReceiptTimeout = row Port (codes "announceReceiptTimeout") Decimal (pos 2) (pos 255) (pos 3)
-row_of Time = row Clock (codes "time") Decimal (pos 0) (pos 8589934591999999999) (pos 0)
+row_of Time = row Clock (codes "time") Decimal (pos 0) TIME_MAX (pos 0)
 row_of Drift = row Clock (codes "drift") Signed (negsuc 9999999) (pos 10000000) (pos 0)
 
 -- the options in the order of the table

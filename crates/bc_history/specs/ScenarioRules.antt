@@ -2,9 +2,11 @@
 -- scenario needs no test of them (own).
 use Rattle.std.specs.Prelude.{◌≡◌, ℕ, ℤ, pos, negsuc, ◌*ℤ◌, ◌<◌, ◌≤◌, ◌≤ℤ◌, false, List, length}
 use Rattle.std.specs.List.{All, AllPairs}
+use Rattle.ptp_base.specs.declared.limits.TheConstants.{CLOCKS_MAX, DELAYS_MAX, FRAME_MAX, PORTS_MAX, QUERY_MAX, ROWS_MAX}
+use Rattle.ptp_base.specs.declared.number.TheConstants.{TICK_MAX, TIME_MAX}
 use Rattle.ptp_base.specs.declared.port.PortConf.{PortConf}
 use Rattle.model_clock.specs.declared.state.ClockState.{ClockState}
-use Rattle.model_clock.specs.Clock.{IsWithin}
+use Rattle.ptp_base.specs.Floor.{IsWithin}
 use Rattle.bc_history.specs.declared.scenario.Options.{Options}
 use Rattle.bc_history.specs.declared.scenario.Record.{Record}
 use Rattle.bc_history.specs.declared.scenario.Happening.{Happening}
@@ -40,19 +42,19 @@ pub record AreOptions (o : Options) : Type 0 where
   pub first_step_threshold : o.first_step_threshold ≤ 1000000000000000
   pub servo_kp : o.servo_kp ≤ 10000
   pub servo_ki : o.servo_ki ≤ 10000
-  pub delay_filter_length : IsFrom 1 32 o.delay_filter_length
-  pub duration : o.duration ≤ 100000000000000
+  pub delay_filter_length : IsFrom 1 DELAYS_MAX o.delay_filter_length
+  pub duration : o.duration ≤ TICK_MAX
   pub window : IsFrom 1000000 1000000000000 o.window
   pub follow_interval : IsFrom 10000000 1000000000000 o.follow_interval
-  pub subscribe_duration : o.subscribe_duration ≤ 100000000000000
-  pub subscribe_renew : o.subscribe_renew ≤ 100000000000000
-  pub seat_rows : IsFrom 1 262143 o.seat_rows
+  pub subscribe_duration : o.subscribe_duration ≤ TICK_MAX
+  pub subscribe_renew : o.subscribe_renew ≤ TICK_MAX
+  pub seat_rows : IsFrom 1 ROWS_MAX o.seat_rows
 
 -- a clock begins at tick 0 and at its own pace, with a time that clocks can read; its drift is a whole number of ppb,
 -- at most 10,000,000, times 65,536
 pub record IsOpeningClock (c : ClockState) : Type 0 where
   pub tick : c.tick ≡ 0
-  pub time : IsBetween (pos 0) (pos 8589934591999999999) c.time
+  pub time : IsBetween (pos 0) TIME_MAX c.time
   pub freq : c.freq ≡ pos 0
   pub drift : IsWithin (pos 655360000000) c.drift
   pub whole : (ppb : ℤ) × (c.drift ≡ ppb *ℤ pos 65536)
@@ -64,26 +66,26 @@ pub record IsPortConf (p : PortConf) : Type 0 where
   pub log_delay : IsBetween (negsuc 6) (pos 10) p.log_delay
   pub receipt : IsFrom 2 255 p.receipt
 
--- a frame has 1 to 1,500 octets
+-- a frame has 1 to FRAME_MAX octets
 abbrev pub IsHappening : Happening → Type 0
-IsHappening (Frame octets) = IsFrom 1 1500 (length octets)
+IsHappening (Frame octets) = IsFrom 1 FRAME_MAX (length octets)
 IsHappening Down = Unit {0}
 IsHappening Up = Unit {0}
 
 -- a record is of one of so many ports
 pub record IsRecordOf (ports : ℕ) (r : Record) : Type 0 where
   pub port : IsFrom 1 ports r.port
-  pub tick : r.tick ≤ 100000000000000
+  pub tick : r.tick ≤ TICK_MAX
   pub what : IsHappening r.what
 
 -- of two records of one port the later one isn't earlier in time
 abbrev pub IsRecordBefore : Record → Record → Type 0
 IsRecordBefore former later = former.port ≡ later.port → former.tick ≤ later.tick
 
--- a query's text has 1 to 100 octets
+-- a query's text has 1 to QUERY_MAX octets
 pub record IsQuery (q : Asked) : Type 0 where
-  pub tick : q.tick ≤ 100000000000000
-  pub text : IsFrom 1 100 (length q.text)
+  pub tick : q.tick ≤ TICK_MAX
+  pub text : IsFrom 1 QUERY_MAX (length q.text)
 
 abbrev pub IsQueryBefore : Asked → Asked → Type 0
 IsQueryBefore former later = former.tick ≤ later.tick
@@ -106,9 +108,9 @@ AreTogether ports = AllPairs (λ (p q : PortConf). p.clock ≡ q.clock) ports
 -- what every scenario keeps
 pub record IsScenario (s : Scenario) : Type 0 where
   pub options : AreOptions s.options
-  pub clock_count : IsFrom 1 16 (length s.clocks)
+  pub clock_count : IsFrom 1 CLOCKS_MAX (length s.clocks)
   pub clocks : All IsOpeningClock s.clocks
-  pub port_count : IsFrom 1 32 (length s.ports)
+  pub port_count : IsFrom 1 PORTS_MAX (length s.ports)
   pub ports : All IsPortConf s.ports
   -- each port is on a clock that is there, and where boundary_clock_jbod is 0 all are on one
   pub placed : All (λ p. p.clock < length s.clocks) s.ports

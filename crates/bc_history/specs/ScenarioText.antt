@@ -25,8 +25,10 @@ use Rattle.bc_history.specs.declared.scenario.Scenario.{Scenario}
 use Rattle.bc_history.specs.OptionTable.{option_named, value_of, with_option, with_port_option, with_clock_option}
 use Rattle.bc_history.specs.Headers.{header_of, section_of, may_follow}
 use Rattle.bc_history.specs.Drafts.{Draft, empty_draft, with_last, scenario_of}
-use Rattle.bc_history.specs.Silent.{plain_clock}
-use Rattle.bc_history.specs.Lines.{last_tick, longest_frame, longest_query, is_port, is_clock, record_of, is_early_record, frame_length, query_of, is_early_query, turns_of}
+use Rattle.model_clock.specs.Clock.{plain_clock}
+use Rattle.bc_history.specs.Lines.{is_port, is_clock, record_of, is_early_record, frame_length, query_of, is_early_query, turns_of}
+use Rattle.ptp_base.specs.declared.number.TheConstants.{TICK_MAX}
+use Rattle.ptp_base.specs.declared.limits.TheConstants.{CLOCKS_MAX, FRAME_MAX, PORTS_MAX, QUERY_MAX}
 
 -- ---- what a line is, by its words and the section in force
 
@@ -76,12 +78,12 @@ header_tests d good Global = sole_tests d good (In_options The_whole)
 header_tests d good (Clock n) =
     (is_misplaced d (In_options A_clock) || not (n == length d.clocks), Order)
     ∷ (not good, Value)
-    ∷ (n == 16, Limit)
+    ∷ (n == CLOCKS_MAX, Limit)
     ∷ []
 header_tests d good (Port n clock) =
     (is_misplaced d (In_options A_port) || not (n == length d.ports + 1), Order)
     ∷ (not (is_clock d.clocks clock) || not good, Value)
-    ∷ (n == 33, Limit)
+    ∷ (n == PORTS_MAX + 1, Limit)
     ∷ (breaks_jbod d clock, Jbod)
     ∷ []
 header_tests d good Records = sole_tests d good In_records
@@ -117,7 +119,7 @@ is_lost ports (Some record_) = not (is_port ports record_.port)
 
 abbrev pub is_great_record : Option Record → Bool
 is_great_record None = false
-is_great_record (Some r) = nat_lt last_tick r.tick || nat_lt longest_frame (frame_length r.what)
+is_great_record (Some r) = nat_lt TICK_MAX r.tick || nat_lt FRAME_MAX (frame_length r.what)
 
 abbrev pub found_tests : Draft → (is_early : Bool) → Option Record → Bool → Tests
 found_tests d is_early found good =
@@ -131,7 +133,7 @@ record_tests d good words = found_tests d (is_early_record d.ports d.records wor
 
 abbrev pub is_great_query : Option Asked → Bool
 is_great_query None = false
-is_great_query (Some asked) = nat_lt last_tick asked.tick || nat_lt longest_query (length asked.text)
+is_great_query (Some asked) = nat_lt TICK_MAX asked.tick || nat_lt QUERY_MAX (length asked.text)
 
 abbrev pub asked_tests : (is_early : Bool) → Option Asked → Bool → Tests
 asked_tests is_early asked good =

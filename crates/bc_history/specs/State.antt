@@ -17,6 +17,12 @@ pub record Event : Type 0 where
   pub input : Input
   pub seen : Option Seen
 
+-- a measure of an entry of a tick, and the stamp under which it was made
+pub record TickMeasure : Type 0 where
+  pub tick : ℕ
+  pub measure : Measure
+  pub held : Held
+
 -- one port, with what the hub keeps beside its machine
 pub record HubPort : Type 0 where
   pub port : Port
@@ -24,19 +30,29 @@ pub record HubPort : Type 0 where
   pub kept : List KeptAnnounce
   -- how many records of the scenario came
   pub taken : ℕ
-  -- the tick and the measure of the port's last entry, where it gave one
-  pub measured : Option (ℕ × (Measure × Held))
+  -- what the port's last entry measured, where it did
+  pub measured : Option TickMeasure
+
+-- when a follower subscribed: the tick and the moment of its turn
+pub record Subscription : Type 0 where
+  pub tick : ℕ
+  pub moment : ℕ
+
+-- what a follower was told to copy by an entry of a tick
+pub record TickLead : Type 0 where
+  pub tick : ℕ
+  pub lead : Lead
 
 -- the follower of one clock
 pub record Follower : Type 0 where
   pub turns : ℕ
-  -- the tick and the moment of the last subscription
-  pub subscribed : Option (ℕ × ℕ)
+  -- the last subscription
+  pub subscribed : Option Subscription
   -- the last notice that was ever put, and how many were put since the last turn
   pub last : Option Notice
   pub put : ℕ
-  -- the tick and the lead that the follower's last entry told it
-  pub leading : Option (ℕ × Lead)
+  -- what the follower's last entry told it to copy
+  pub leading : Option TickLead
 
 -- the moment, the ports, and whom the clock takes its time from
 pub record Core : Type 0 where
@@ -56,5 +72,6 @@ pub record State : Type 0 where
   -- the last measure of any port
   pub measured : Option Measure
   pub followers : List Follower
-  -- how many queries came
+  -- how many queries came, and how many of them made a request
   pub queries : ℕ
+  pub requests : ℕ

@@ -1,5 +1,5 @@
--- The text of a run. The lines that print an answer are not part of it yet: they come with the queries.
-use Rattle.std.specs.Prelude.{ℕ, pos, ◌+◌, List, [], ◌∷◌, length, codes, Option, Some, None}
+-- The text of a run.
+use Rattle.std.specs.Prelude.{ℕ, pos, ◌+◌, if◌then◌else◌, List, [], ◌∷◌, length, codes, Option, Some, None}
 use Rattle.std.specs.Fmt.{decimal, signed_decimal}
 use Rattle.hex.specs.Hex.{encode_lower}
 use Rattle.ptp_base.specs.Floor.{floor_of}
@@ -21,6 +21,7 @@ use Rattle.ptp_profile.specs.declared.seats.Log.{Log}
 use Rattle.ptp_profile.specs.declared.seats.LogEntry.{LogEntry}
 use Rattle.ptp_profile.specs.declared.seats.LogEntry.TheVariants.{Order, Change}
 use Rattle.ptp_profile.specs.Naming.{◌<>◌, state_name, port_text}
+use Rattle.ptp_profile.specs.Queries.{shows, printed_lines}
 use Rattle.bc_history.specs.declared.entry.Input.{Input}
 use Rattle.bc_history.specs.declared.entry.Input.TheVariants.{Frame, Timed, Down, Up, Report, Turn, Sampled, Query}
 use Rattle.bc_history.specs.declared.entry.Outcome.{Outcome}
@@ -148,9 +149,19 @@ abbrev pub asked_text : Option AskError → List ℕ
 asked_text None = []
 asked_text (Some error) = codes "  asked " <> asked_name error <> codes "\n"
 
+-- the lines that print an answer, where it can be printed
+abbrev pub answer_lines : List ℕ → List (List ℕ)
+answer_lines answer = if shows answer then printed_lines answer else []
+
+-- each line behind four spaces
+abbrev pub indented : List (List ℕ) → List ℕ
+indented [] = []
+indented (line ∷ lines) = codes "    " <> line <> codes "\n" <> indented lines
+
 abbrev pub answers_text : List (List ℕ) → List ℕ
 answers_text [] = []
-answers_text (answer ∷ answers) = codes "  answer " <> encode_lower answer <> codes "\n" <> answers_text answers
+answers_text (answer ∷ answers) =
+    codes "  answer " <> encode_lower answer <> codes "\n" <> indented (answer_lines answer) <> answers_text answers
 
 unfoldable pub effects_text : Effects → List ℕ
 effects_text f =

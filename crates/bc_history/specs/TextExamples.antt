@@ -5,7 +5,8 @@ use Rattle.text_io.specs.Lines.{lines_of_text}
 use Rattle.bc_history.specs.declared.scenario.Scenario.{Scenario}
 use Rattle.bc_history.specs.declared.scenario.Happening.TheVariants.{Frame, Down}
 use Rattle.bc_history.specs.declared.scenario.Turner.TheVariants.{Clock}
-use Rattle.bc_history.specs.Silent.{default_options, plain_clock, plain_port, silent}
+use Rattle.bc_history.specs.Silent.{default_options, plain_port, silent}
+use Rattle.model_clock.specs.Clock.{plain_clock}
 use Rattle.bc_history.specs.Drafts.{scenario_of}
 use Rattle.bc_history.specs.ScenarioText.{draft_of, fault_at, line_count}
 

@@ -1,24 +1,24 @@
 -- The run that a list of turns gives: one actor takes one step at a time.
-use Rattle.std.specs.Prelude.{ℕ, zero, suc, ℤ, pos, ◌+◌, ◌-◌, ◌-ℤ◌, ◌≡◌, Bool, true, false, not, ◌==◌, ◌&&◌, nat_le, nat_lt, if◌then◌else◌, List, [], ◌∷◌, ◌++◌, length, map, filter, filter_map, fold, slice_get, replicate, Option, Some, None, option_map, option_and_then, reverse}
+use Rattle.std.specs.Prelude.{ℕ, zero, suc, ℤ, pos, ◌+◌, ◌-◌, ◌-ℤ◌, ◌≡◌, Bool, true, false, ◌==◌, nat_le, nat_lt, if◌then◌else◌, List, [], ◌∷◌, ◌++◌, length, map, filter, filter_map, slice_get, slice_set, replicate, Option, Some, None, option_map, option_and_then, reverse}
+use Rattle.std.specs.Option.{option_or}
 use Rattle.ptp_base.specs.Floor.{ns_of}
-use Rattle.model_clock.specs.declared.state.ClockState.{ClockState}
-use Rattle.model_clock.specs.Clock.{reading}
+use Rattle.ptp_base.specs.Least.{first_least}
+use Rattle.ptp_base.specs.declared.limits.TheConstants.{ENTRIES_MAX}
+use Rattle.model_clock.specs.Clock.{clock_at, reading}
 use Rattle.ptp_profile.specs.declared.timing.Action.{Action}
-use Rattle.ptp_profile.specs.declared.timing.Action.TheVariants.{Unlocked as Unlocked_action, Jump, Locked}
+use Rattle.ptp_profile.specs.declared.timing.Action.TheVariants.{Unlocked as Unlocked_action}
 use Rattle.ptp_profile.specs.declared.timing.Measure.{Measure}
 use Rattle.ptp_profile.specs.declared.roles.Lead.{Lead}
-use Rattle.ptp_profile.specs.declared.roles.RoleOrder.{RoleOrder}
 use Rattle.ptp_profile.specs.declared.seats.Held.{Held}
-use Rattle.ptp_profile.specs.declared.seats.Log.{Log}
 use Rattle.ptp_profile.specs.declared.seats.LogEntry.{LogEntry}
-use Rattle.ptp_profile.specs.declared.seats.LogEntry.TheVariants.{Order, Change}
+use Rattle.ptp_profile.specs.declared.seats.Reading.{Reading}
 use Rattle.ptp_profile.specs.Servo.{Sample, newest_action}
-use Rattle.ptp_profile.specs.Logs.{clock_after, stamp_after}
+use Rattle.ptp_profile.specs.Logs.{log_at, logs_from, no_logs, whole_reading, with_orders}
 use Rattle.bc_history.specs.declared.entry.Entry.{Entry}
 use Rattle.bc_history.specs.declared.entry.Input.{Input}
 use Rattle.bc_history.specs.declared.entry.Input.TheVariants.{Report, Turn, Sampled, Query}
 use Rattle.bc_history.specs.declared.entry.Outcome.{Outcome}
-use Rattle.bc_history.specs.declared.entry.Outcome.TheVariants.{Unlocked, Changed, Superseded, Spent}
+use Rattle.bc_history.specs.declared.entry.Outcome.TheVariants.{Unlocked}
 use Rattle.bc_history.specs.declared.entry.Seen.{Seen}
 use Rattle.bc_history.specs.declared.entry.Run.{Run}
 use Rattle.bc_history.specs.declared.entry.Who.{Who}
@@ -30,10 +30,11 @@ use Rattle.bc_history.specs.declared.scenario.Turner.TheVariants.{Default, Port 
 use Rattle.bc_history.specs.declared.scenario.Turns.{Turns}
 use Rattle.bc_history.specs.State.{HubPort, Follower, State}
 use Rattle.bc_history.specs.Inputs.{tick_of, port_of, port_at, changed_at, at_port, is_read}
-use Rattle.bc_history.specs.Opening.{servo_of}
+use Rattle.bc_history.specs.Opening.{servo_of, follower_count}
+use Rattle.bc_history.specs.Outcomes.{exchanged}
 use Rattle.bc_history.specs.Step.{state_of}
 use Rattle.bc_history.specs.Effects.{entry_after}
-use Rattle.bc_history.specs.Next.{port_input, turn_tick, query_input}
+use Rattle.bc_history.specs.Next.{next_input, turn_tick, query_input}
 
 -- ---- where an actor is in its job
 
@@ -58,61 +59,23 @@ pub record World : Type 0 where
   pub ports : List PortPlace
   pub followers : List FollowerPlace
 
--- a follower exists for each clock exactly where there are two clocks or more
-abbrev pub follower_count : Scenario → ℕ
-follower_count s = if nat_le 2 (length s.clocks) then length s.clocks else 0
-
 abbrev pub world_opening : Scenario → World
 world_opening s = record {
   entries = [];
-  logs = map (λ (c : ClockState). []) s.clocks;
+  logs = no_logs s.clocks;
   ports = map (λ c. Waits) s.ports;
   followers = replicate (follower_count s) Turns_next;
 }
 
 -- ---- clocks and their logs
 
-abbrev pub no_clock : ClockState
-no_clock = record { tick = 0; time = pos 0; freq = pos 0; drift = pos 0 }
-
-abbrev pub opening_of : Scenario → ℕ → ClockState
-opening_of s c = known (slice_get s.clocks c)
-  where
-    known : Option ClockState → ClockState
-    known None = no_clock
-    known (Some clock) = clock
-
-abbrev pub log_of : World → ℕ → List LogEntry
-log_of w c = known (slice_get w.logs c)
-  where
-    known : Option (List LogEntry) → List LogEntry
-    known None = []
-    known (Some log) = log
+-- what a reading shows at a tick
+abbrev pub seen_at : ℕ → Reading → Seen
+seen_at tick r = record { number = r.number; value = reading r.state tick; freq = r.state.freq }
 
 -- a reading of a clock after all entries of its log
 abbrev pub seen_of : Scenario → World → ℕ → ℕ → Seen
-seen_of s w c tick = record {
-  number = length (log_of w c);
-  value = reading (clock_after (opening_of s c) (log_of w c)) tick;
-  freq = (clock_after (opening_of s c) (log_of w c)).freq;
-}
-
--- one more order
-abbrev pub with_order : List (List LogEntry) → RoleOrder → List (List LogEntry)
-with_order logs o = changed_at (λ log. Order o.gener o.ctrl ∷ log) o.clock logs
-
--- the change that an action asks for
-abbrev pub change_by : Held → ℕ → Action → List LogEntry
-change_by held tick Unlocked_action = []
-change_by held tick (Jump step freq) = Change held.gener held.ctrl tick step freq ∷ []
-change_by held tick (Locked freq) = Change held.gener held.ctrl tick (pos 0) freq ∷ []
-
--- an exchange under the held stamp, with so many rows: what it gives, and the log after it
-abbrev pub exchanged : ℕ → Held → ℕ → Action → List LogEntry → Outcome × List LogEntry
-exchanged rows held tick action log =
-    if not (((stamp_after log).gener == held.gener) && ((stamp_after log).ctrl == held.ctrl)) then (Superseded (stamp_after log).gener (length log), log)
-    else if nat_le rows (length log) then (Spent (length log), log)
-    else (Changed (length log + 1), change_by held tick action ++ log)
+seen_of s w c tick = seen_at tick (whole_reading (clock_at s.clocks c) (log_at w.logs c))
 
 -- ---- samples and actions
 
@@ -166,13 +129,13 @@ port_place s p entries tick (Some m) = port_job tick m.1 (newest_action (servo_o
 
 -- the entry is added, and its orders are appended to the logs
 abbrev pub with_entry : World → Entry → World
-with_entry w e = record w { entries = e ∷ w.entries; logs = fold with_order w.logs e.effects.orders }
+with_entry w e = record w { entries = e ∷ w.entries; logs = with_orders w.logs e.effects.orders }
 
 abbrev pub port_event : Scenario → World → ℕ → Input → Option Seen → World
 port_event s w p input seen = placed (entry_after s w.entries input seen)
   where
     placed : Entry → World
-    placed e = record (with_entry w e) { ports = at_port (λ place. port_place s p (e ∷ w.entries) (tick_of input) e.effects.measure) (Some p) w.ports }
+    placed e = record (with_entry w e) { ports = at_port (λ place. port_place s p (e ∷ w.entries) (tick_of input) e.effects.measure) p w.ports }
 
 -- a reading comes with a frame and a timer
 abbrev pub port_reading : Scenario → World → HubPort → Input → Option Seen
@@ -183,11 +146,11 @@ abbrev pub is_due : Scenario → ℕ → Bool
 is_due s tick = nat_le tick s.options.duration
 
 abbrev pub port_step : Scenario → World → ℕ → HubPort → PortPlace → Option Step
-port_step s w p h Waits = option_and_then (λ input. if is_due s (tick_of input) then Some (Event (port_event s w p input (port_reading s w h input))) else None) (port_input s h)
-port_step s w p h (Exchanges tick held action) = Some (Free (after (exchanged s.options.seat_rows held tick action (log_of w held.clock))))
+port_step s w p h Waits = option_and_then (λ input. if is_due s (tick_of input) then Some (Event (port_event s w p input (port_reading s w h input))) else None) (next_input s h)
+port_step s w p h (Exchanges tick held action) = Some (Free (after (exchanged s.options.seat_rows held tick action (log_at w.logs held.clock))))
   where
     after : Outcome × List LogEntry → World
-    after x = record w { logs = changed_at (λ log. x.1) held.clock w.logs; ports = at_port (λ place. Reports tick held.gener action x.0) (Some p) w.ports }
+    after x = record w { logs = slice_set w.logs held.clock x.1; ports = at_port (λ place. Reports tick held.gener action x.0) p w.ports }
 port_step s w p h (Reports tick gener action outcome) = Some (Event (port_event s w p (Report p tick gener action outcome) None))
 
 -- the stamp that a follower of clock c holds by its lead
@@ -222,10 +185,10 @@ follower_step s w c f (Reads_own tick lead theirs) = Some (Free (placed_follower
   where
     acting : Seen → FollowerPlace
     acting own = follower_job tick lead theirs own (newest_action (servo_of s.options) (sample_of lead theirs own ∷ follower_samples c w.entries))
-follower_step s w c f (Exchanges_own tick lead theirs own action) = Some (Free (after (exchanged s.options.seat_rows (held_by c lead) tick action (log_of w c))))
+follower_step s w c f (Exchanges_own tick lead theirs own action) = Some (Free (after (exchanged s.options.seat_rows (held_by c lead) tick action (log_at w.logs c))))
   where
     after : Outcome × List LogEntry → World
-    after x = placed_follower (record w { logs = changed_at (λ log. x.1) c w.logs }) c (Samples tick lead theirs own action x.0)
+    after x = placed_follower (record w { logs = slice_set w.logs c x.1 }) c (Samples tick lead theirs own action x.0)
 follower_step s w c f (Samples tick lead theirs own action outcome) = Some (Event (follower_event s w c (Sampled c tick lead theirs own action outcome) (λ e. Turns_next)))
 
 abbrev pub query_step : Scenario → World → Option Asked → Option Step
@@ -242,7 +205,7 @@ step_of s w The_queries = query_step s w (query_input s (state_of s w.entries))
 
 -- the tick of the step that an actor has, and whether it is in the middle of its job
 abbrev pub port_due : Scenario → HubPort → PortPlace → Option (ℕ × Bool)
-port_due s h Waits = option_map (λ input. (tick_of input, false)) (port_input s h)
+port_due s h Waits = option_map (λ input. (tick_of input, false)) (next_input s h)
 port_due s h (Exchanges tick held action) = Some (tick, true)
 port_due s h (Reports tick gener action outcome) = Some (tick, true)
 
@@ -278,21 +241,13 @@ candidates s w = of (state_of s w.entries)
     of : State → List Candidate
     of h = filter_map (λ candidate. candidate) (port_candidates s 1 h.core.ports w.ports ++ follower_candidates s 0 h.followers w.followers ++ due_candidate s The_queries (option_map (λ (asked : Asked). (asked.tick, false)) (query_input s h)) ∷ [])
 
--- a later one goes first only where its tick is less
-abbrev pub sooner : Option Candidate → Candidate → Option Candidate
-sooner None later = Some later
-sooner (Some first) later = if nat_lt later.tick first.tick then Some later else Some first
-
+-- of those with the least tick the first
 abbrev pub first_of : List Candidate → Option Who
-first_of all = option_map (λ (candidate : Candidate). candidate.who) (fold sooner None all)
-
-abbrev pub or_else : Option Who → Option Who → Option Who
-or_else (Some who) other = Some who
-or_else None other = other
+first_of all = option_map (λ (candidate : Candidate). candidate.who) (first_least (λ (candidate : Candidate). candidate.tick) all)
 
 -- the default rule: one in the middle of its job goes first, else the least tick; of equals the first in the order of all actors
 abbrev pub default_turn : Scenario → World → Option Who
-default_turn s w = or_else (first_of (filter (λ (candidate : Candidate). candidate.busy) (candidates s w))) (first_of (candidates s w))
+default_turn s w = option_or (first_of (filter (λ (candidate : Candidate). candidate.busy) (candidates s w))) (first_of (candidates s w))
 
 -- who takes the turn of a line of the schedule
 abbrev pub turn_of : Scenario → World → Turner → Option Who
@@ -316,17 +271,13 @@ pub data Status : Type 0 where
   Going : World → Status
   Ended : End → Status
 
-abbrev pub log_from : Scenario → ℕ → List (List LogEntry) → List Log
-log_from s c [] = []
-log_from s c (log ∷ logs) = record { clock = c; opening = opening_of s c; entries = reverse log } ∷ log_from s (c + 1) logs
-
 -- the run so far, the oldest entry first
 abbrev pub run_of : Scenario → World → Run
-run_of s w = record { entries = reverse w.entries; logs = log_from s 0 w.logs }
+run_of s w = record { entries = reverse w.entries; logs = logs_from 0 s.clocks w.logs }
 
--- an event is one too many where 131,071 entries are held
+-- an event is one too many where ENTRIES_MAX entries are held
 abbrev pub stepped : World → Step → Status
-stepped w (Event next) = if nat_le 131071 (length w.entries) then Ended Events else Going next
+stepped w (Event next) = if nat_le ENTRIES_MAX (length w.entries) then Ended Events else Going next
 stepped w (Free next) = Going next
 
 abbrev pub take_step : World → End → Option Step → Status

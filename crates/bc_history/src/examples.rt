@@ -1,7 +1,22 @@
-ghost use Rattle.std.specs.Prelude.{◌≡◌, ◌∷◌, [], Some, None, option_map, pos};
+ghost use Rattle.std.specs.Prelude.{◌≡◌, ◌∷◌, [], Some, None, option_map, pos, ◌++◌, codes, drop, flat_map, length, map, take};
+ghost use Rattle.hex.specs.Hex.{encode_lower};
+ghost use Rattle.ptp_profile.specs.Management.{managed_read};
+ghost use Rattle.ptp_profile.specs.declared.management.Action.TheVariants.{Response};
+ghost use Rattle.ptp_profile.specs.declared.management.AskError.TheVariants.{Target, Unknown};
+ghost use Rattle.ptp_profile.specs.declared.management.Tlv.TheVariants.{Error};
+ghost use Rattle.bc_history.specs.declared.entry.Effects.{Effects};
+ghost use Rattle.bc_history.specs.Text.{entry_text};
+ghost use Rattle.bc_history.specs.History.{IsFinished};
+ghost use Rattle.bc_history.specs.Next.{IsDue};
+ghost use Rattle.bc_history.specs.Step.{state_of};
+ghost use Rattle.bc_history.specs.declared.entry.Input.TheVariants.{Sampled, Timed};
+ghost use Rattle.bc_history.specs.declared.entry.Outcome.{Outcome};
+ghost use Rattle.bc_history.specs.declared.entry.Seen.{Seen};
+ghost use Rattle.ptp_profile.specs.declared.port.Timer.TheVariants.{AnnounceReceipt};
+ghost use Rattle.ptp_profile.specs.declared.timing.Action.{Action};
 ghost use Rattle.bc_history.specs.World.{Status, Ended, Finished, status_after};
 ghost use Rattle.bc_history.specs.Silent.{silent};
-ghost use Rattle.bc_history.specs.Examples.{two_masters, realistic, on_one_clock, handover, unsubscribed, two_rows, one_port, frame_at, announce_frame, hears_twice, two_masters_heard, worse_heard, summary_after, ending_after, moves_after, at, reports_after, move, order, sent_first, lengths_after, first_sync, first_follow_up, goes_down, fates_after, syncs_alone, responds_twice};
+ghost use Rattle.bc_history.specs.Examples.{two_masters, realistic, on_one_clock, handover, unsubscribed, two_rows, one_port, frame_at, announce_frame, hears_twice, two_masters_heard, worse_heard, summary_after, ending_after, moves_after, at, reports_after, move, order, sent_first, lengths_after, first_sync, first_follow_up, goes_down, fates_after, syncs_alone, responds_twice, entries_after, history_before, queried, query_effects, answers_to_query, port_answer, priority_hex};
 ghost use Rattle.bc_history.specs.declared.entry.Outcome.TheVariants.{Unlocked, Changed, Superseded, Spent};
 ghost use Rattle.ptp_base.specs.declared.port.PortState.TheVariants.{Listening, Faulty, PreMaster, Master, Passive, Uncalibrated, Slave};
 ghost use Rattle.ptp_profile.specs.declared.port.Fate.TheVariants.{Kept, Paired, Matched, Unmatched};
@@ -81,4 +96,41 @@ pub fn master_sends()
 pub fn frames_pair()
     ensures syncs { fates_after syncs_alone 60 ≡ Some (Kept ∷ Kept ∷ Paired ∷ Paired ∷ Kept ∷ Paired ∷ Paired ∷ Kept ∷ []) }
     ensures responses { fates_after responds_twice 60 ≡ Some (Kept ∷ Kept ∷ Matched ∷ Unmatched ∷ []) }
+{}
+
+/// After the run of two silent ports nothing is due, nor after that of a port that follows a master
+/// and a clock that copies it. Before its last entry that entry's input is due.
+pub fn runs_are_finished()
+    ensures silent { IsFinished (silent 6 2) (history_before 0 (silent 6 2) 3) }
+    ensures second { IsDue (silent 6 2) (state_of (silent 6 2) (history_before 1 (silent 6 2) 3))
+        (Timed 2 6000000000 AnnounceReceipt) }
+    ensures copied { IsFinished realistic (history_before 0 realistic 60) }
+    ensures sampled { (theirs own : Seen) (action : Action) (outcome : Outcome)
+        → IsDue realistic (state_of realistic (history_before 1 realistic 60))
+        (Sampled 1 8000000000 (record { gener = 2; source = 0 }) theirs own action outcome) }
+{}
+
+/// Two masters that are asked at once. A query that makes no request says why; each other request has
+/// the number of those before it as its sequence, and as many answers as it asks ports that are
+/// there. Nothing is set.
+pub fn queries_are_answered()
+    ensures entries { length (entries_after queried 9) ≡ 8 }
+    ensures asked { map (λ (f : Effects). f.asked) query_effects
+        ≡ None ∷ None ∷ None ∷ Some Unknown ∷ None ∷ Some Target ∷ [] }
+    ensures value { map encode_lower (answers_to_query 0) ≡ priority_hex ∷ [] }
+    ensures ports { map port_answer (answers_to_query 1)
+        ≡ Some (record { port = 1; seq = 1; state = 6 })
+        ∷ Some (record { port = 2; seq = 1; state = 6 }) ∷ [] }
+    ensures absent { answers_to_query 2 ≡ [] }
+    ensures unsupported { map (managed_read 0) (answers_to_query 4) ≡ Some (record {
+      sender = record { clock = record { id = 0x020000fffe000001 }; port = 0 };
+      target = record { clock = record { id = 0 }; port = 1 };
+      seq = 3;
+      action = Response;
+      tlv = Error 6 0x2005;
+    }) ∷ [] }
+    ensures text { flat_map (entry_text 3) (take 1 (drop 2 (entries_after queried 9)))
+        ≡ codes "event 3 6000000000 query 6000000000 GET PRIORITY1\n  answer " ++ priority_hex
+        ++ codes "\n    020000.fffe.000001-0 seq 0 RESPONSE MANAGEMENT PRIORITY1\n"
+        ++ codes "    priority1 128\n" }
 {}

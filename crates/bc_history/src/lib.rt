@@ -6,6 +6,7 @@ mod examples;
 mod laws;
 mod option;
 mod option_laws;
+mod port_input;
 mod rule_laws;
 mod scenario;
 mod section;
@@ -17,14 +18,17 @@ pub use entry::{
 };
 pub use examples::{
     class_decides, follows_a_master, follows_on_one_clock, frames_pair, handed_over, log_is_full,
-    master_sends, qualification_waits, silent_ports, told_too_late, two_announces_qualify,
+    master_sends, qualification_waits, queries_are_answered, runs_are_finished, silent_ports,
+    told_too_late, two_announces_qualify,
 };
 pub use laws::{
-    at_most_one_follows, exchanges_agree, has_one_end, moments_never_fall, nothing_follows_the_end,
-    ports_stay,
+    at_most_one_follows, controllers_are_always_a_forest, edges_are_those_of_the_ports,
+    entries_tell_by_their_kind, exchanges_agree, has_one_end, moments_never_fall,
+    nothing_follows_the_end, ports_stay, readings_come_with_frames_and_timers,
 };
 pub use option::{Form, OptionName, Scope};
 pub use option_laws::{defaults_are_of_the_table, options_are_named};
+pub use port_input::{EventContext, PortEntry, PortHappening, PortInput};
 pub use ptp_profile::Logs;
 pub use ptp_profile::management::{Answers, AskError};
 pub use rule_laws::scenarios_keep_the_rules;

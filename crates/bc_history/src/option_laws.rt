@@ -2,7 +2,8 @@ ghost use Rattle.std.specs.Prelude.{◌≡◌, Some};
 ghost use Rattle.ptp_base.specs.declared.port.PortConf.{PortConf};
 ghost use Rattle.model_clock.specs.declared.state.ClockState.{ClockState};
 ghost use Rattle.bc_history.specs.OptionTable.{row_of, option_named, with_defaults, with_port_defaults, with_clock_defaults};
-ghost use Rattle.bc_history.specs.Silent.{default_options, plain_port, plain_clock};
+ghost use Rattle.bc_history.specs.Silent.{default_options, plain_port};
+ghost use Rattle.model_clock.specs.Clock.{plain_clock};
 ghost use Rattle.bc_history.specs.declared.option.OptionName.{OptionName};
 ghost use Rattle.bc_history.specs.declared.scenario.Options.{Options};
 

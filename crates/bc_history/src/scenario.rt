@@ -50,7 +50,7 @@ pub struct Options {
     pub servo_kp: u32,
     /// The servo's integral gain, in thousandths, 0 to 10,000.
     pub servo_ki: u32,
-    /// Of how many delays the median is taken, 1 to 32.
+    /// Of how many delays the median is taken, 1 to `DELAYS_MAX`.
     pub delay_filter_length: u8,
     /// The end of the run.
     pub duration: u64,
@@ -62,7 +62,7 @@ pub struct Options {
     pub subscribe_duration: u64,
     /// After how long a follower subscribes anew.
     pub subscribe_renew: u64,
-    /// How many entries a clock's log may have, 1 to 262,143.
+    /// How many entries a clock's log may have, 1 to `ROWS_MAX`.
     pub seat_rows: u32,
 }
 
@@ -111,8 +111,8 @@ pub struct Turns {
 }
 
 /// What a run is made from. Every scenario keeps the rules: its numbers are in the ranges of their
-/// options, it has 1 to 16 clocks and 1 to 32 ports, what it says is of clocks and ports that it
-/// has, and ticks don't fall.
+/// options, it has 1 to `CLOCKS_MAX` clocks and 1 to `PORTS_MAX` ports, what it says is of clocks and
+/// ports that it has, and ticks don't fall.
 #[derive(Debug, Drop)]
 pub struct Scenario {
     pub options: Options,

@@ -15,13 +15,14 @@ use Rattle.ptp_profile.specs.DataSets.{Master, master_after}
 use Rattle.ptp_profile.specs.Machine.{is_dependent}
 use Rattle.ptp_profile.specs.Timers.{window_of}
 use Rattle.ptp_profile.specs.Port.{is_set_for, after_event, renewed}
-use Rattle.bc_history.specs.declared.entry.Input.{Input}
-use Rattle.bc_history.specs.declared.entry.Input.TheVariants.{Frame, Timed, Down, Up, Report, Turn, Sampled, Query}
+use Rattle.bc_history.specs.declared.port_input.PortHappening.{PortHappening}
+use Rattle.bc_history.specs.declared.port_input.PortHappening.TheVariants.{Frame, Timed, Down, Up, Report}
 use Rattle.bc_history.specs.declared.scenario.Options.{Options}
-use Rattle.bc_history.specs.Inputs.{port_of, port_at, at_port, holds}
+use Rattle.bc_history.specs.Inputs.{port_at, at_port, holds}
 use Rattle.bc_history.specs.Opening.{own_of}
-use Rattle.bc_history.specs.Own.{fate_at}
-use Rattle.bc_history.specs.State.{Event, HubPort, Core}
+use Rattle.bc_history.specs.PortPhase.{fate_at}
+use Rattle.bc_history.specs.State.{HubPort, Core}
+use Rattle.bc_history.specs.declared.port_input.PortEntry.{PortEntry}
 
 -- Erbest: the best announcement that a port hears, at moment m
 abbrev pub best_of : ℕ → HubPort → Option Announcement
@@ -35,20 +36,17 @@ abbrev pub is_kept : Option Fate → Bool
 is_kept (Some Kept) = true
 is_kept _ = false
 
--- a kept Announce, an announce receipt timeout, a fault and its end raise a decision; the ports are those before the entry
-abbrev pub raises : Option Fate → List HubPort → Input → Bool
-raises fate ports (Frame port tick octets) = is_kept fate
-raises fate ports (Timed port tick AnnounceReceipt) = holds (λ (h : HubPort). is_set_for AnnounceReceipt tick h.port) (port_at ports port)
-raises fate ports (Timed port tick Qualification) = false
-raises fate ports (Timed port tick AnnounceSend) = false
-raises fate ports (Timed port tick SyncSend) = false
-raises fate ports (Timed port tick DelayRequest) = false
-raises fate ports (Down port tick) = true
-raises fate ports (Up port tick) = true
-raises fate ports (Report port tick gener action outcome) = false
-raises fate ports (Turn clock tick) = false
-raises fate ports (Sampled clock tick lead theirs own action outcome) = false
-raises fate ports (Query tick text) = false
+-- a kept Announce, an announce receipt timeout, a fault and its end raise a decision; the port is that of the entry, before it
+abbrev pub raises : Option Fate → Option HubPort → ℕ → PortHappening → Bool
+raises fate port tick (Frame octets) = is_kept fate
+raises fate port tick (Timed AnnounceReceipt) = holds (λ (h : HubPort). is_set_for AnnounceReceipt tick h.port) port
+raises fate port tick (Timed Qualification) = false
+raises fate port tick (Timed AnnounceSend) = false
+raises fate port tick (Timed SyncSend) = false
+raises fate port tick (Timed DelayRequest) = false
+raises fate port tick Down = true
+raises fate port tick Up = true
+raises fate port tick (Report gener action outcome) = false
 
 -- the code of a port, with the own announcement and Ebest
 abbrev pub code_with : Announcement → ℕ → Option Announcement → HubPort → Code
@@ -62,15 +60,16 @@ master_among own m best master ports = master_after own best master (map (code_w
 abbrev pub is_new_parent : Option Announcement → PortId → Bool
 is_new_parent best parent = holds (λ (a : Announcement). not (is_same_port a.sender parent)) best
 
--- a port after the decision; the parent is the one before it, the steps are those after it
-abbrev pub decided_port : Announcement → ℕ → Option Announcement → PortId → ℕ → HubPort → HubPort
-decided_port own m best parent steps h = record h { port = after_event m steps (Decided (code_with own m best h)) (is_new_parent best parent) h.port }
+-- a port after its code; the parent is the one before the decision, the steps are those after it
+abbrev pub with_code : Announcement → ℕ → Option Announcement → PortId → ℕ → HubPort → HubPort
+with_code own m best parent steps h =
+    record h { port = after_event m steps (Decided (code_with own m best h)) (is_new_parent best parent) h.port }
 
 -- the decision for all ports: the data sets first, then each port
-unfoldable pub decided : Announcement → Option Announcement → Core → Core
-decided own best c = record c {
+unfoldable pub with_codes : Announcement → Option Announcement → Core → Core
+with_codes own best c = record c {
   master = master_among own c.moment best c.master c.ports;
-  ports = map (decided_port own c.moment best c.master.parent (master_among own c.moment best c.master c.ports).steps) c.ports;
+  ports = map (with_code own c.moment best c.master.parent (master_among own c.moment best c.master c.ports).steps) c.ports;
 }
 
 -- the announcement comes from the sender
@@ -85,16 +84,22 @@ newest_sender [] = None
 newest_sender (k ∷ kept) = Some k.said.sender
 
 -- announce receipt is set anew where a port that counts on another clock hears its best sender
-abbrev pub renewed_by : ℕ → HubPort → HubPort
-renewed_by m h = if is_dependent h.port.state && is_sent_by (best_of m h) (newest_sender h.kept) then record h { port = renewed m h.port } else h
+abbrev pub with_renewal : ℕ → HubPort → HubPort
+with_renewal m h =
+    if is_dependent h.port.state && is_sent_by (best_of m h) (newest_sender h.kept) then record h { port = renewed m h.port } else h
 
 -- after a kept Announce and its decision, for the port that heard it
-unfoldable pub heard : Input → Core → Core
-heard input c = record c { ports = at_port (renewed_by c.moment) (port_of input) c.ports }
+unfoldable pub after_hearing : ℕ → Core → Core
+after_hearing number c = record c { ports = at_port (with_renewal c.moment) number c.ports }
 
-abbrev pub raised : Options → Option Fate → Input → Core → Core
-raised o fate input c = if is_kept fate then heard input (decided (own_of o) (best_among c.moment c.ports) c) else decided (own_of o) (best_among c.moment c.ports) c
+-- the decision that an entry of a port raises
+abbrev pub with_decision : Options → Option Fate → ℕ → Core → Core
+with_decision o fate number c =
+    if is_kept fate then after_hearing number (with_codes (own_of o) (best_among c.moment c.ports) c)
+    else with_codes (own_of o) (best_among c.moment c.ports) c
 
--- the decision, where the entry raises one: before is what stood before the entry, c what its own phase left
-abbrev pub ruled : Options → Event → Core → Core → Core
-ruled o e before c = if raises (fate_at o e before) before.ports e.input then raised o (fate_at o e before) e.input c else c
+-- the decision, where the entry raises one: `before` is what stood before the port took its input, c what stands after that
+abbrev pub after_decision : Options → PortEntry → Core → Core → Core
+after_decision o e before c =
+    if raises (fate_at o e before) (port_at before.ports e.input.number) e.input.tick e.input.what
+    then with_decision o (fate_at o e before) e.input.number c else c

@@ -24,5 +24,6 @@ abbrev pub orders_now : Core → Roles → List RoleOrder
 orders_now c r = if begins c r then orders_of (r.gener + 1) r.edges (edges_now c r) else []
 
 -- the roles after the entry
-unfoldable pub generation : Core → Roles → Roles
-generation c r = if begins c r then record { gener = r.gener + 1; edges = edges_now c r; orders = reverse (orders_now c r) ++ r.orders } else r
+unfoldable pub after_roles : Core → Roles → Roles
+after_roles c r =
+    if begins c r then record { gener = r.gener + 1; edges = edges_now c r; orders = reverse (orders_now c r) ++ r.orders } else r

@@ -1,0 +1,5 @@
+use Rattle.bc_history.proofs.Generations.{edges-state_of}
+use Rattle.bc_history.proofs.laws.edges_are_those_of_the_ports.Goals as goal
+
+pub returns : goal.returns
+returns c = edges-state_of
