@@ -1,14 +1,16 @@
 ghost use Rattle.std.specs.Prelude.{◌≡◌, ◌≤◌, ℕ, length, IfOk};
 ghost use Rattle.bc_history.specs.Drafts.{empty_draft, clocks_of, scenario_of};
 ghost use Rattle.bc_history.specs.ScenarioRules.{IsScenario};
-ghost use Rattle.bc_history.specs.Silent.{default_options, plain_clock, plain_port};
+ghost use Rattle.bc_history.specs.Silent.{default_options, plain_port};
+ghost use Rattle.model_clock.specs.Clock.{plain_clock};
+ghost use Rattle.ptp_base.specs.declared.limits.TheConstants.{CLOCKS_MAX};
 
 use bc_history::{
     AskedList, ClockStates, OptionName, Options, PortConfs, RecordList, Scenario, Section,
     TurnsList,
 };
 use model_clock::ClockState;
-use ptp_base::{ClockId, Items, NoMemory, PortConf};
+use ptp_base::{ClockId, Items, NoMemory, PORTS_MAX, PortConf};
 use std::alloc::Global;
 use std::marker::Model;
 
@@ -26,7 +28,7 @@ pub(crate) struct Draft {
     pub(crate) ports: PortConfs,
     pub(crate) records: RecordList,
     /// The tick of each port's former record.
-    pub(crate) former: [u64; 32],
+    pub(crate) former: [u64; PORTS_MAX],
     pub(crate) queries: AskedList,
     pub(crate) turns: TurnsList,
 }
@@ -129,7 +131,7 @@ impl Draft {
         let clocks = Items::new(alloc);
         let ports = Items::new(alloc);
         let records = Items::new(alloc);
-        let former = [0; 32];
+        let former = [0; PORTS_MAX];
         Draft {
             section: None,
             named: Items::new(alloc),
@@ -174,7 +176,7 @@ impl Draft {
     /// How many clocks there are: where no clock section stands, there is one.
     pub(crate) fn clock_count(&self) -> usize
         ensures count { result ≡ length (clocks_of self.now.clocks) }
-        ensures few { result ≤ 16 }
+        ensures few { result ≤ CLOCKS_MAX }
     {
         match self.clocks.items() {
             [] => 1,

@@ -1,7 +1,8 @@
 ghost use Rattle.std.specs.Prelude.{◌≡◌, ◌<◌, ◌≤◌, ◌++◌, ◌∷◌, [], ℕ, List, Some, None, OnOk, IfOk, IfErr, length, option_map, nat_lt};
 ghost use Rattle.std.specs.List.{join_with_byte};
 ghost use Rattle.text_io.specs.Lines.{words_of};
-ghost use Rattle.bc_history.specs.Lines.{former_query, is_early_query, query_of, last_tick};
+ghost use Rattle.bc_history.specs.Lines.{former_query, is_early_query, query_of};
+ghost use Rattle.ptp_base.specs.declared.number.TheConstants.{TICK_MAX};
 ghost use Rattle.bc_history.specs.ScenarioText.{first_of, asked_tests, query_tests, is_great_query, and_one};
 ghost use Rattle.bc_config.specs.Telling.{Tells};
 ghost use Rattle.bc_config.specs.Found.{query_found};
@@ -9,12 +10,9 @@ ghost use Rattle.bc_config.specs.Found.{query_found};
 use crate::draft::Draft;
 use crate::refusal::LineError;
 use bc_history::Asked;
-use ptp_base::{NoMemory, Octets, TICK_MAX};
+use ptp_base::{NoMemory, Octets, QUERY_MAX, TICK_MAX};
 use std::alloc::Global;
 use text_io::{Reason, Words, number, words_in};
-
-/// The octets of the longest query.
-const LONGEST_QUERY: usize = 100;
 
 /// A query as its line has it: its tick may be greater than a scenario's.
 #[derive(Drop)]
@@ -59,7 +57,7 @@ fn question_of(alloc: Global, line: &[u8]) -> Result<Option<Question>, NoMemory>
 fn is_great(question: &Question) -> bool
     ensures { result ≡ is_great_query (Some (query_found question.now)) }
 {
-    question.tick > u128::from(TICK_MAX) || question.text.items().len() > LONGEST_QUERY
+    question.tick > u128::from(TICK_MAX) || question.text.items().len() > QUERY_MAX
 }
 
 impl Draft {
@@ -89,7 +87,7 @@ impl Draft {
 
     /// Adds a query.
     fn add_query(&mut self, question: Question) -> Result<(), NoMemory>
-        requires { question.tick ≤ last_tick }
+        requires { question.tick ≤ TICK_MAX }
         ensures { OnOk result (self.new ≡ record self.old { queries = self.old.queries ++ query_found question ∷ [] }) }
     {
         let Question { tick, text } = question;

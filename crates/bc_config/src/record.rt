@@ -1,5 +1,7 @@
 ghost use Rattle.std.specs.Prelude.{◌≡◌, ◌+◌, ◌<◌, ◌≤◌, ◌&&◌, nat_lt, true, ℕ, List, [], ◌∷◌, ◌++◌, Some, None, OnOk, IfOk, IfErr, IfSome, length, option_map};
-ghost use Rattle.bc_history.specs.Lines.{is_port, former_tick, frame_of, happening_of, record_of, is_early_record, frame_length, last_tick};
+ghost use Rattle.bc_history.specs.Lines.{is_port, former_tick, frame_of, happening_of, record_of, is_early_record, frame_length};
+ghost use Rattle.ptp_base.specs.declared.limits.TheConstants.{PORTS_MAX};
+ghost use Rattle.ptp_base.specs.declared.number.TheConstants.{TICK_MAX};
 ghost use Rattle.bc_history.specs.ScenarioText.{first_of, found_tests, record_tests, is_great_record, and_one};
 ghost use Rattle.bc_config.specs.Phrases.{IsPhrase};
 ghost use Rattle.bc_config.specs.Telling.{Tells};
@@ -10,12 +12,9 @@ use crate::phrase::Phrase;
 use crate::refusal::LineError;
 use bc_history::{Happening, Record};
 use hex::FromHexError;
-use ptp_base::{NoMemory, Octets, TICK_MAX};
+use ptp_base::{FRAME_MAX, NoMemory, Octets, TICK_MAX};
 use std::alloc::Global;
 use text_io::{Reason, number};
-
-/// The octets of the longest frame.
-const LONGEST_FRAME: usize = 1_500;
 
 /// A record as its line has it: tick and port may be greater than a scenario's.
 #[derive(Drop)]
@@ -90,14 +89,14 @@ fn frame_length(what: &Happening) -> usize
 fn is_great(found: &Found) -> bool
     ensures { result ≡ is_great_record (Some (record_found found.now)) }
 {
-    found.tick > u128::from(TICK_MAX) || frame_length(&found.what) > LONGEST_FRAME
+    found.tick > u128::from(TICK_MAX) || frame_length(&found.what) > FRAME_MAX
 }
 
 impl Draft {
     /// Whether a port is there.
     pub(crate) fn is_port(&self, number: u128) -> bool
         ensures value { result ≡ is_port self.now.ports number }
-        ensures few { result ≡ true → number ≤ 32 }
+        ensures few { result ≡ true → number ≤ PORTS_MAX }
     {
         1 <= number && number <= self.ports.len() as u128
     }
@@ -136,7 +135,7 @@ impl Draft {
     /// Adds a record of a port that is there.
     fn add_record(&mut self, found: Found) -> Result<(), NoMemory>
         requires port { is_port self.old.ports found.port ≡ true }
-        requires tick { found.tick ≤ last_tick }
+        requires tick { found.tick ≤ TICK_MAX }
         ensures { OnOk result (self.new ≡ record self.old { records = self.old.records ++ record_found found ∷ [] }) }
     {
         let Found { tick, port, what } = found;

@@ -2,12 +2,13 @@ ghost use Rattle.std.specs.Prelude.{◌≡◌, ◌<◌, None, OnOk, IfErr, lengt
 ghost use Rattle.bc_history.specs.Headers.{section_of, place_of, may_repeat, may_follow};
 ghost use Rattle.bc_history.specs.ScenarioText.{first_of, sole_tests, is_misplaced, is_on_another, breaks_jbod, header_tests, with_header};
 ghost use Rattle.bc_config.specs.Drafted.{HasPlace};
+ghost use Rattle.ptp_base.specs.declared.limits.TheConstants.{CLOCKS_MAX, PORTS_MAX};
 ghost use Rattle.bc_config.specs.Telling.{Tells};
 
 use crate::draft::{Draft, plain_clock};
 use crate::refusal::LineError;
 use bc_history::{Header, Scope, Section};
-use ptp_base::{NoMemory, PortConf};
+use ptp_base::{CLOCKS_MAX, NoMemory, PORTS_MAX, PortConf};
 use text_io::Reason;
 
 /// The section that a header begins.
@@ -103,14 +104,14 @@ impl Draft {
     /// What is wrong with the header of a clock.
     fn clock_fault(&self, number: u128, good: bool) -> Option<Reason>
         ensures value { result ≡ first_of (header_tests self.now good (Header.Clock number)) }
-        ensures room { result ≡ None → length self.now.clocks < 16 }
+        ensures room { result ≡ None → length self.now.clocks < CLOCKS_MAX }
     {
         let next = Section::Options(Scope::Clock);
         if self.is_misplaced(next) || number != self.clocks.len() as u128 {
             Some(Reason::Order)
         } else if !good {
             Some(Reason::Value)
-        } else if number == 16 {
+        } else if number == CLOCKS_MAX as u128 {
             Some(Reason::Limit)
         } else {
             None
@@ -120,14 +121,14 @@ impl Draft {
     /// What is wrong with the header of a port.
     fn port_fault(&self, number: u128, clock: u128, good: bool) -> Option<Reason>
         ensures value { result ≡ first_of (header_tests self.now good (Header.Port number clock)) }
-        ensures room { result ≡ None → (length self.now.ports < 32) × (clock < 256) }
+        ensures room { result ≡ None → (length self.now.ports < PORTS_MAX) × (clock < CLOCKS_MAX) }
     {
         let next = Section::Options(Scope::Port);
         if self.is_misplaced(next) || number != self.ports.len() as u128 + 1 {
             Some(Reason::Order)
         } else if clock >= self.clock_count() as u128 || !good {
             Some(Reason::Value)
-        } else if number == 33 {
+        } else if number == PORTS_MAX as u128 + 1 {
             Some(Reason::Limit)
         } else if self.breaks_jbod(clock) {
             Some(Reason::Jbod)

@@ -2,6 +2,7 @@ ghost use Rattle.std.specs.Prelude.{◌≡◌};
 ghost use Rattle.bc_history.specs.OptionTable.{row, row_of};
 
 use bc_history::{Form, OptionName, Scope};
+use ptp_base::{DELAYS_MAX, ROWS_MAX, TICK_MAX, TIME_MAX};
 use std::marker::Model;
 
 /// What the table of options says of one.
@@ -136,12 +137,18 @@ pub fn row(option: OptionName) -> OptionRow
         ),
         OptionName::ServoKp => made(Global, b"servo_kp", Decimal, (0, 10_000), 700),
         OptionName::ServoKi => made(Global, b"servo_ki", Decimal, (0, 10_000), 300),
-        OptionName::DelayFilterLength => made(Global, b"delay_filter_length", Decimal, (1, 32), 10),
+        OptionName::DelayFilterLength => made(
+            Global,
+            b"delay_filter_length",
+            Decimal,
+            (1, DELAYS_MAX as i128),
+            10,
+        ),
         OptionName::Duration => made(
             Global,
             b"duration",
             Seconds,
-            (0, 100_000_000_000_000),
+            (0, TICK_MAX as i128),
             20_000_000_000,
         ),
         OptionName::Window => made(
@@ -162,17 +169,17 @@ pub fn row(option: OptionName) -> OptionRow
             Global,
             b"subscribe_duration",
             Seconds,
-            (0, 100_000_000_000_000),
+            (0, TICK_MAX as i128),
             180_000_000_000,
         ),
         OptionName::SubscribeRenew => made(
             Global,
             b"subscribe_renew",
             Seconds,
-            (0, 100_000_000_000_000),
+            (0, TICK_MAX as i128),
             60_000_000_000,
         ),
-        OptionName::SeatRows => made(Global, b"seat_rows", Decimal, (1, 262_143), 65_536),
+        OptionName::SeatRows => made(Global, b"seat_rows", Decimal, (1, ROWS_MAX as i128), 65_536),
         OptionName::LogAnnounceInterval => made(Port, b"logAnnounceInterval", Signed, (-7, 10), 1),
         OptionName::LogSyncInterval => made(Port, b"logSyncInterval", Signed, (-7, 10), 0),
         OptionName::LogMinDelayReqInterval => made(
@@ -189,7 +196,7 @@ pub fn row(option: OptionName) -> OptionRow
             (2, 255),
             3,
         ),
-        OptionName::Time => made(Clock, b"time", Decimal, (0, 8_589_934_591_999_999_999), 0),
+        OptionName::Time => made(Clock, b"time", Decimal, (0, TIME_MAX as i128), 0),
         OptionName::Drift => made(Clock, b"drift", Signed, (-10_000_000, 10_000_000), 0),
     }
 }

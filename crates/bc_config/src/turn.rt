@@ -1,6 +1,7 @@
 ghost use Rattle.std.specs.Prelude.{◌≡◌, ◌<◌, true, ℕ, List, None, OnOk, IfErr};
 ghost use Rattle.bc_history.specs.Lines.{count_of, turns_by, turner_of, plain_turns, placed_turns, turns_of, is_follower};
 ghost use Rattle.bc_history.specs.ScenarioText.{first_of, added_tests, turn_tests, and_one};
+ghost use Rattle.ptp_base.specs.declared.limits.TheConstants.{CLOCKS_MAX};
 ghost use Rattle.bc_config.specs.Phrases.{IsPhrase};
 ghost use Rattle.bc_config.specs.Telling.{Tells};
 
@@ -50,7 +51,7 @@ impl Draft {
     /// Whether a clock has a follower.
     fn is_follower(&self, number: u128) -> bool
         ensures value { result ≡ is_follower self.now.clocks number }
-        ensures few { result ≡ true → number < 16 }
+        ensures few { result ≡ true → number < CLOCKS_MAX }
     {
         2 <= self.clocks.len() && number < self.clocks.len() as u128
     }
