@@ -1,6 +1,6 @@
-pub mod Standing
-pub mod Taking
-pub mod Owning
-pub mod Deciding
-pub mod Serving
-pub mod Opened
+pub mod Forgetting
+pub mod Representation
+pub mod PortYield
+pub mod Scratch
+pub mod ClockYield
+pub mod Opening

@@ -1,11 +1,14 @@
-ghost use Rattle.std.specs.Prelude.{◌≡◌, ℕ, ◌+◌, ◌*◌, ◌-◌, ◌<◌, ◌≤◌, List, [], length, ◌++◌};
-ghost use Rattle.bc_history.specs.Generations.{states_of};
-ghost use Rattle.bc_history.specs.State.{HubPort};
-ghost use Rattle.bc_ports.specs.Standing.{AllStandFor};
+ghost use Rattle.std.specs.Prelude.{◌≡◌, ◌≢◌, ℕ, ◌+◌, ◌*◌, ◌<◌, ◌≤◌, List, [], length, slice_get, slice_set, ◌++◌, Some};
+ghost use Rattle.ptp_base.specs.declared.limits.TheConstants.{PORTS_MAX};
+ghost use Rattle.bc_history.specs.RolePhase.{states_of};
+ghost use Rattle.bc_history.specs.State.{HubPort as Model};
 ghost use Rattle.bc_history.specs.Effects.{moved, moves_from, changed_parent};
+ghost use Rattle.bc_ports.specs.Representation.{PortsRepresent};
+ghost use Rattle.bc_ports.specs.Scratch.{states_in, with_states};
 
-use crate::port::PortNow;
+use crate::hub_port::HubPort;
 use bc_history::Moved;
+use data_sets::{PortSet, PortSets};
 use ptp_base::{PortId, PortState, Room};
 
 /// Adds how a port moved, where it did.
@@ -19,18 +22,35 @@ fn push_moved(port: u16, old: PortState, new: PortState, out: &mut Room<Moved>)
     }
 }
 
-/// Adds how the ports moved: each at its own event, and then by the decision.
-pub fn push_moves(olds: &[PortState], mids: &[PortState], news: &[PortState], out: &mut Room<Moved>)
-    requires mids { length mids.now ≡ length olds.now }
-    requires news { length news.now ≡ length olds.now }
-    requires few { length olds.now ≤ 32 }
-    requires room { 2 * length olds.now ≤ out.old.spare }
-    ensures { out.new.items ≡ out.old.items ++ moves_from 1 olds.now mids.now news.now }
+/// The state of the port of index `i` after the own event of the port of index `at`, which left that
+/// in the state `between`.
+fn state_between(i: usize, at: usize, between: PortState, old: PortState) -> PortState
+    ensures here { i ≡ at → result ≡ between }
+    ensures elsewhere { i ≢ at → result ≡ old }
 {
-    for i in 0..olds.len() {
+    if i == at { between } else { old }
+}
+
+/// Adds how the ports moved: the port of index `at` at its own event, which left it in the state
+/// `between`, and then each by the decision.
+pub fn push_moves(
+    sets: &[PortSet],
+    at: usize,
+    between: PortState,
+    news: &[PortState],
+    out: &mut Room<Moved>,
+)
+    requires news { length news.now ≡ length sets.now }
+    requires few { length sets.now ≤ PORTS_MAX }
+    requires room { 2 * length sets.now ≤ out.old.spare }
+    ensures { out.new.items ≡ out.old.items ++ moves_from 1 (states_in sets.now) (slice_set (states_in sets.now) at between) news.now }
+{
+    for i in 0..sets.len() {
         let port = i as u16 + 1;
-        push_moved(port, olds[i], mids[i], out);
-        push_moved(port, mids[i], news[i], out);
+        let old = sets[i].state;
+        let mid = state_between(i, at, between, old);
+        push_moved(port, old, mid, out);
+        push_moved(port, mid, news[i], out);
     }
 }
 
@@ -42,13 +62,39 @@ pub fn changed_parent(old: PortId, new: PortId) -> Option<PortId>
 }
 
 /// Adds the states of the ports.
-pub fn push_states(ports: &[PortNow], out: &mut Room<PortState>)
+pub fn push_states(ports: &[HubPort], out: &mut Room<PortState>)
     requires empty { out.old.items ≡ [] }
     requires room { length ports.now ≤ out.old.spare }
     ensures length { length out.new.items ≡ length ports.now }
-    ensures states { (n m : ℕ) (hs : List HubPort) → AllStandFor n m ports.now hs → out.new.items ≡ states_of hs }
+    ensures states { (n m : ℕ) (hs : List Model) → PortsRepresent n m ports.now hs → out.new.items ≡ states_of hs }
 {
     for port in ports {
         out.push(port.engine.state());
+    }
+}
+
+/// portDS of the port of an index.
+fn set_at(sets: &PortSets, i: usize) -> PortSet
+    requires { i < length sets.now }
+    ensures { slice_get sets.now i ≡ Some result }
+{
+    sets.items()[i]
+}
+
+/// portDS with another state.
+fn with_state(former: PortSet, state: PortState) -> PortSet
+    ensures { result ≡ record former { state = state } }
+{
+    PortSet { state, ..former }
+}
+
+/// Takes the states into portDS of each port (IEEE 1588-2019, 8.2.15.3.1).
+pub fn set_states(sets: &mut PortSets, states: &[PortState])
+    requires { length states.now ≡ length sets.old }
+    ensures { sets.new ≡ with_states sets.old states.now }
+{
+    for i in 0..states.len() {
+        let former = set_at(sets, i);
+        sets.set(i, with_state(former, states[i]));
     }
 }

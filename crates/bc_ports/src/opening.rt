@@ -1,15 +1,20 @@
-ghost use Rattle.std.specs.Prelude.{◌≡◌, ◌≤◌, length, All, IfOk};
-ghost use Rattle.bc_history.specs.Opening.{own_of, own_port};
+ghost use Rattle.std.specs.Prelude.{◌≡◌, ◌≤◌, length, All, IfOk, None};
+ghost use Rattle.bc_history.specs.Opening.{own_of, own_port, opening};
+ghost use Rattle.ptp_base.specs.declared.limits.TheConstants.{DELAYS_MAX, PORTS_MAX};
 ghost use Rattle.bc_history.specs.ScenarioRules.{IsPortConf};
-ghost use Rattle.bc_ports.specs.Opened.{ArePortsFrom, IsOpenPort, IsOpened};
+ghost use Rattle.bc_ports.specs.Opening.{ArePortsFrom, IsOpenPort, port_set_from, port_sets_from};
+ghost use Rattle.bc_ports.specs.Representation.{ClockRepresents, IsSound};
 
-use crate::now::Now;
-use crate::port::PortNow;
+use crate::boundary_clock::BoundaryClock;
+use crate::hub_port::HubPort;
+use crate::scratch::DecisionScratch;
 use bc_history::{Options, Scenario};
-use data_sets::DataSets;
+use data_sets::{DataSets, PortSet, PortSets};
 use foreign_master::Records;
 use port_engine::PortEngine;
-use ptp_base::{Announcement, Items, NoMemory, PortConf, PortId, Quality, TimeProps, interval};
+use ptp_base::{
+    Announcement, Items, NoMemory, PortConf, PortId, PortState, Quality, TimeProps, interval,
+};
 use std::alloc::Global;
 
 /// What the own clock would announce (D0 of IEEE 1588-2019, 9.3.4).
@@ -54,14 +59,14 @@ fn open_port(
     options: &Options,
     port: u16,
     conf: &PortConf,
-) -> Result<PortNow, NoMemory>
+) -> Result<HubPort, NoMemory>
     requires some { 1 ≤ options.now.delay_filter_length }
-    requires few { options.now.delay_filter_length ≤ 32 }
+    requires few { options.now.delay_filter_length ≤ DELAYS_MAX }
     requires conf { IsPortConf conf.now }
     ensures { IfOk result (IsOpenPort options.now port conf.now) }
 {
     let id = own_port(options, port);
-    Ok(PortNow {
+    Ok(HubPort {
         engine: PortEngine::new(alloc, conf, id, options.delay_filter_length)?,
         records: Records::new(alloc, id, 4 * interval(conf.log_announce))?,
     })
@@ -72,10 +77,10 @@ fn open_ports(
     alloc: Global,
     options: &Options,
     confs: &[PortConf],
-) -> Result<Vec<PortNow>, NoMemory>
+) -> Result<Vec<HubPort>, NoMemory>
     requires some { 1 ≤ options.now.delay_filter_length }
-    requires length { options.now.delay_filter_length ≤ 32 }
-    requires few { length confs.now ≤ 32 }
+    requires length { options.now.delay_filter_length ≤ DELAYS_MAX }
+    requires few { length confs.now ≤ PORTS_MAX }
     requires confs { All IsPortConf confs.now }
     ensures length { IfOk result (λ ports. ports.len ≡ length confs.now) }
     ensures ports { IfOk result (λ ports. ArePortsFrom options.now 1 ports.items confs.now) }
@@ -89,17 +94,49 @@ fn open_ports(
     Ok(ports)
 }
 
-impl Now {
-    /// Ports and data sets as a run begins: every port in LISTENING, and the own clock as master.
-    pub fn new(alloc: Global, s: &Scenario) -> Result<Now, NoMemory>
-        ensures { IfOk result (IsOpened s.now) }
+/// portDS of a port as a run begins (IEEE 1588-2019, 8.2.15).
+fn port_set_of(options: &Options, port: u16, conf: &PortConf) -> PortSet
+    ensures { result ≡ port_set_from options.now port conf.now }
+{
+    PortSet {
+        id: own_port(options, port),
+        state: PortState::Listening,
+        log_announce: conf.log_announce,
+        log_sync: conf.log_sync,
+        log_delay: conf.log_delay,
+        receipt: conf.receipt,
+    }
+}
+
+/// portDS of each port as a run begins.
+fn port_sets(alloc: Global, options: &Options, confs: &[PortConf]) -> Result<PortSets, NoMemory>
+    requires few { length confs.now ≤ PORTS_MAX }
+    ensures { IfOk result (λ sets. sets ≡ port_sets_from options.now 1 confs.now) }
+{
+    let mut sets = Items::new(alloc);
+    let mut number: u16 = 0;
+    for conf in confs {
+        number += 1;
+        sets.push(port_set_of(options, number, conf))?;
+    }
+    Ok(sets)
+}
+
+impl BoundaryClock {
+    /// As a run begins: every port in LISTENING, and this clock as its own master.
+    pub fn new(alloc: Global, s: &Scenario) -> Result<BoundaryClock, NoMemory>
+        ensures clock { IfOk result (λ n. ClockRepresents s.now.options n (opening s.now).core None) }
+        ensures sound { IfOk result IsSound }
+        ensures length { IfOk result (λ n. n.ports.len ≡ length s.now.ports) }
     {
         s.rules();
         let own = own_of(&s.options);
-        Ok(Now {
+        let sets = port_sets(alloc, &s.options, s.ports.items())?;
+        Ok(BoundaryClock {
             moment: 0,
-            sets: DataSets::new(own, s.options.domain_number, own.time, Items::new(alloc)),
+            sets: DataSets::new(own, s.options.domain_number, own.time, sets),
             ports: open_ports(alloc, &s.options, s.ports.items())?,
+            scratch: DecisionScratch::with(alloc, s.ports.len())?,
         })
     }
 }

@@ -2,9 +2,9 @@ use Rattle.std.proofs.Common.{◌≡◌, ◌∙◌, ◌-◌, ◌<◌, suc, List,
 use Rattle.std.proofs.lemmas.List.{append-nil}
 use Rattle.ptp_base.specs.Room.{Reserved}
 use Rattle.ptp_base.specs.declared.port.PortState.{PortState}
-use Rattle.bc_history.specs.Generations.{states_of}
+use Rattle.bc_history.specs.RolePhase.{states_of}
 use Rattle.bc_history.specs.State.{HubPort}
-use Rattle.bc_ports.proofs.Standings.{AllStandFor-next, AllStandFor-end}
+use Rattle.bc_ports.proofs.RepresentationLemmas.{PortsRepresent-next, PortsRepresent-end}
 use Rattle.bc_ports.proofs.moves.push_states.Goals as goal
 
 pub loop-port-preserved : goal.loop-port-preserved
@@ -18,7 +18,7 @@ loop-port-preserved c =
       count = rw items (simp length-append (omega (arith, c.loop-port.invariant.count)));
       states = λ n m hs all.
           let lt : c.loop-port.port-index < length c.args.ports.now = omega arith in
-          let nx = AllStandFor-next n m c.args.ports.now hs c.loop-port.port-index _ all lt c.port-item.is in
+          let nx = PortsRepresent-next n m c.args.ports.now hs c.loop-port.port-index _ all lt c.port-item.is in
           let rest : List PortState = states_of (drop (suc c.loop-port.port-index) hs) in
           let is : one ≡ nx.0.port.state = c.state.ensures ∙ nx.2.engine.state in
           rw (add-one, items, append_assoc) (ap (λ (x : PortState). done ++ (x ∷ rest)) is ∙ (ap (λ (xs : List HubPort). done ++ states_of xs) (sym nx.1) ∙ c.loop-port.invariant.states n m hs all));
@@ -26,6 +26,6 @@ loop-port-preserved c =
 
 pub returns-clause-states : goal.returns-clause-states
 returns-clause-states c = λ n m hs all.
-    let end : drop c.loop-port.port-index hs ≡ [] = AllStandFor-end n m c.args.ports.now hs c.loop-port.port-index all (omega arith) in
+    let end : drop c.loop-port.port-index hs ≡ [] = PortsRepresent-end n m c.args.ports.now hs c.loop-port.port-index all (omega arith) in
     let done : List PortState = c.loop-port.out.items in
     sym (append-nil done) ∙ (ap (λ (xs : List HubPort). done ++ states_of xs) (sym end) ∙ c.loop-port.invariant.states n m hs all)

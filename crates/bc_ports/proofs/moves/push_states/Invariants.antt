@@ -1,12 +1,12 @@
 use Rattle.std.proofs.Common.{◌≡◌, ℕ, ◌+◌, ◌≤◌, List, ◌++◌, drop, length}
-use Rattle.bc_history.specs.Generations.{states_of}
+use Rattle.bc_history.specs.RolePhase.{states_of}
 use Rattle.bc_history.specs.State.{HubPort}
-use Rattle.bc_ports.specs.Standing.{AllStandFor}
+use Rattle.bc_ports.specs.Representation.{PortsRepresent}
 use Rattle.bc_ports.proofs.moves.push_states.Given as goal
 
 abbrev pub invariant-loop-port : goal.invariant-loop-port
 invariant-loop-port l = record {
   room : length l.ports ≤ l.out.spare + l.port-index;
   count : length l.out.items ≡ l.port-index;
-  states : (n m : ℕ) (hs : List HubPort) → AllStandFor n m l.ports hs → l.out.items ++ states_of (drop l.port-index hs) ≡ states_of hs;
+  states : (n m : ℕ) (hs : List HubPort) → PortsRepresent n m l.ports hs → l.out.items ++ states_of (drop l.port-index hs) ≡ states_of hs;
 }

@@ -1,9 +1,9 @@
 use Rattle.std.proofs.Common.{◌≡◌, ◌+◌, ◌<◌, ℕ, pos, List, ◌++◌, ◌∷◌, [], length, take, get_or, subst, sym, arith}
 use Rattle.std.proofs.lemmas.List.{take_more, length-take-le}
 use Rattle.ptp_base.specs.declared.port.PortConf.{PortConf}
-use Rattle.bc_ports.specs.Opened.{ArePortsFrom, IsOpenPort}
-use Rattle.bc_ports.specs.declared.port.PortNow.{PortNow}
-use Rattle.bc_ports.proofs.Openings.{ArePortsFrom-push}
+use Rattle.bc_ports.specs.Opening.{ArePortsFrom, IsOpenPort}
+use Rattle.bc_ports.specs.declared.hub_port.HubPort.{HubPort as KeptPort}
+use Rattle.bc_ports.proofs.OpeningLemmas.{ArePortsFrom-push}
 use Rattle.bc_ports.proofs.opening.open_ports.Goals as goal
 
 pub loop-conf-preserved : goal.loop-conf-preserved
@@ -18,7 +18,7 @@ loop-conf-preserved c =
     let conf = get_or c.args.confs.now at.conf-index none in
     let N : ℕ → Type 0 = λ k. IsOpenPort o k conf q in
     let T : List PortConf → Type 0 = λ cs. ArePortsFrom o 1 (at.ports.items ++ q ∷ []) cs in
-    let Q : List PortNow → Type 0 = λ qs. ArePortsFrom o 1 qs (take (at.conf-index + 1) c.args.confs.now) in
+    let Q : List KeptPort → Type 0 = λ qs. ArePortsFrom o 1 qs (take (at.conf-index + 1) c.args.confs.now) in
     let one = subst N number c.in_ok-open_port.ensures in
     record {
       number = omega (arith, at.invariant.number);

@@ -1,0 +1,43 @@
+use Rattle.std.proofs.Common.{◌≡◌, ◌∙◌, ◌-◌, ◌<◌, suc, List, [], ◌∷◌, ◌++◌, drop, length, refl, ap, sym, arith, add-one, append_assoc, length-append, Option}
+use Rattle.std.proofs.lemmas.List.{append-nil}
+use Rattle.std.proofs.lemmas.List.Elements.{All-push}
+use Rattle.ptp_base.specs.Room.{Reserved}
+use Rattle.ptp_base.specs.declared.port.PortState.{PortState}
+use Rattle.ptp_base.specs.declared.announcement.Announcement.{Announcement}
+use Rattle.bc_history.specs.DecisionPhase.{best_of}
+use Rattle.ptp_profile.specs.declared.foreign.PortBest.{PortBest}
+use Rattle.bc_history.specs.State.{HubPort}
+use Rattle.bc_ports.specs.Scratch.{IsNear, port_bests}
+use Rattle.bc_ports.proofs.RepresentationLemmas.{PortsRepresent-next, PortsRepresent-end}
+use Rattle.bc_ports.proofs.decision.push_bests.Goals as goal
+
+abbrev hears : PortState → Option Announcement → PortBest
+hears s b = record { state = s; best = b }
+
+same_best : (s t : PortState) (b d : Option Announcement) → s ≡ t → b ≡ d → hears s b ≡ hears t d
+same_best s t b d state best = rw (state, best) refl
+
+pub loop-port-preserved : goal.loop-port-preserved
+loop-port-preserved c =
+    let done : List PortBest = c.loop-port.out.items in
+    let one : PortBest = record { state = c.state.result; best = c.best.result } in
+    let items : c.push.new.self.items ≡ done ++ one ∷ [] = ap (λ (r : Reserved PortBest). r.items) c.push.ensures in
+    let spare : c.push.new.self.spare ≡ c.loop-port.out.spare - 1 = ap (λ (r : Reserved PortBest). r.spare) c.push.ensures in
+    record {
+      room = omega (arith, spare, c.loop-port.invariant.room);
+      spare = let before = c.loop-port.invariant.spare in rw items (simp length-append (omega (arith, spare, before)));
+      count = rw items (simp length-append (omega (arith, c.loop-port.invariant.count)));
+      bests = λ n hs all.
+          let lt : c.loop-port.port-index < length c.args.ports.now = omega arith in
+          let nx = PortsRepresent-next n c.args.moment c.args.ports.now hs c.loop-port.port-index _ all lt c.port-item.is in
+          let rest : List PortBest = port_bests c.args.moment (drop (suc c.loop-port.port-index) hs) in
+          let is : one ≡ hears nx.0.port.state (best_of c.args.moment nx.0) = same_best _ _ _ _ (c.state.ensures ∙ nx.2.engine.state) (c.best.ensures.best n nx.0 nx.2) in
+          rw (add-one, items, append_assoc) (ap (λ (x : PortBest). done ++ (x ∷ rest)) is ∙ (ap (λ (xs : List HubPort). done ++ port_bests c.args.moment xs) (sym nx.1) ∙ c.loop-port.invariant.bests n hs all));
+      near = rw items (All-push (λ (b : PortBest). IsNear b.best) done one c.loop-port.invariant.near c.best.ensures.near);
+    }
+
+pub returns-clause-bests : goal.returns-clause-bests
+returns-clause-bests c = λ n hs all.
+    let end : drop c.loop-port.port-index hs ≡ [] = PortsRepresent-end n c.args.moment c.args.ports.now hs c.loop-port.port-index all (omega arith) in
+    let done : List PortBest = c.loop-port.out.items in
+    sym (append-nil done) ∙ (ap (λ (xs : List HubPort). done ++ port_bests c.args.moment xs) (sym end) ∙ c.loop-port.invariant.bests n hs all)

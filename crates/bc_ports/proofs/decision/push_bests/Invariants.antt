@@ -1,0 +1,16 @@
+use Rattle.std.proofs.Common.{◌≡◌, ℕ, ◌+◌, ◌≤◌, List, ◌++◌, drop, length}
+use Rattle.std.specs.Prelude.{All}
+use Rattle.ptp_profile.specs.declared.foreign.PortBest.{PortBest}
+use Rattle.bc_history.specs.State.{HubPort}
+use Rattle.bc_ports.specs.Representation.{PortsRepresent}
+use Rattle.bc_ports.specs.Scratch.{IsNear, port_bests}
+use Rattle.bc_ports.proofs.decision.push_bests.Given as goal
+
+abbrev pub invariant-loop-port : goal.invariant-loop-port
+invariant-loop-port l = record {
+  room : length l.ports ≤ l.out.spare + l.port-index;
+  spare : length l.initial.out.items + l.initial.out.spare ≤ length l.out.items + l.out.spare;
+  count : length l.out.items ≡ l.port-index;
+  bests : (n : ℕ) (hs : List HubPort) → PortsRepresent n l.moment l.ports hs → l.out.items ++ port_bests l.moment (drop l.port-index hs) ≡ port_bests l.moment hs;
+  near : All (λ (b : PortBest). IsNear b.best) l.out.items;
+}

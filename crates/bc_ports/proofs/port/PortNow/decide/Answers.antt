@@ -1,7 +1,0 @@
-use Rattle.std.proofs.Common.{refl}
-use Rattle.ptp_profile.specs.declared.port.PortEvent.TheVariants.{Decided}
-use Rattle.bc_ports.proofs.Keepings.{keeps-event}
-use Rattle.bc_ports.proofs.port.PortNow.decide.Goals as goal
-
-pub returns-clause-stands : goal.returns-clause-stands
-returns-clause-stands c = λ length h s. keeps-event length c.args.moment c.args.steps (Decided c.args.code) c.args.is_new _ _ h.port h.kept refl s (c.enter.ensures length h.port s.engine)

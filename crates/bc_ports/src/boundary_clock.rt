@@ -1,0 +1,127 @@
+ghost use Rattle.ptp_base.specs.declared.number.TheConstants.{TICK_MAX};
+ghost use Rattle.std.specs.Prelude.{◌≡◌, ℕ, ◌+◌, ◌≤◌, length, Option, List, Some};
+ghost use Rattle.bc_history.specs.declared.scenario.Options.{Options};
+ghost use Rattle.bc_history.specs.Opening.{own_of};
+ghost use Rattle.bc_history.specs.PortPhase.{after_port};
+ghost use Rattle.bc_history.specs.DecisionPhase.{with_codes, best_among, after_hearing, with_decision};
+ghost use Rattle.ptp_profile.specs.declared.port.Fate.{Fate};
+ghost use Rattle.bc_history.specs.State.{Core};
+ghost use Rattle.bc_history.specs.Step.{at_moment};
+ghost use Rattle.bc_ports.specs.Scratch.{OthersStay};
+ghost use Rattle.bc_ports.specs.PortYield.{IsTime};
+ghost use Rattle.bc_ports.specs.Representation.{CoreRepresents, IsSound};
+ghost use Rattle.bc_ports.specs.ClockYield.{CoreYields, IsAmong, IsHeard, IsKeptAt};
+
+use crate::decision::{apply_codes, decide_ports, is_new_parent, push_bests};
+use crate::hub_port::HubPort;
+use crate::port_input::PortOutcome;
+use crate::scratch::DecisionScratch;
+use bc_history::{EventContext, PortEntry};
+use data_sets::DataSets;
+use port_engine::Frames;
+use ptp_base::PortId;
+use state_decision::{codes_with, ebest};
+
+/// What is kept of a boundary clock's history: the moment, the data sets, in which portDS of each
+/// port stands, and the ports.
+#[derive(Drop)]
+pub struct BoundaryClock {
+    /// The greatest tick so far, in ns of the scenario.
+    pub moment: u64,
+    pub sets: DataSets,
+    /// By rising number, from port 1 on.
+    pub ports: Vec<HubPort>,
+    pub scratch: DecisionScratch,
+}
+
+impl BoundaryClock {
+    /// The port of an entry takes its input.
+    pub(crate) fn take(&mut self, entry: &PortEntry, frames: &mut Frames) -> PortOutcome
+        requires sound { IsSound self.old }
+        requires among { IsAmong self.old.ports.len entry.now }
+        requires room { 2 ≤ frames.old.spare }
+        ensures sound { IsSound self.new }
+        ensures length { self.new.ports.len ≡ self.old.ports.len }
+        ensures sets { self.new.sets ≡ self.old.sets }
+        ensures yields { (o : Options) (c : Core) → CoreRepresents o self.old c
+            → CoreYields o entry.now (at_moment entry.now.input.tick c) self.new frames.old.items frames.new.items result }
+    {
+        let input = &entry.input;
+        self.moment = self.moment.max(input.tick);
+        let context = EventContext {
+            moment: self.moment,
+            parent: self.sets.parent,
+            steps: self.sets.steps,
+            held: entry.held,
+            reading: entry.reading,
+        };
+        let port = &mut self.ports[input.number as usize - 1];
+        port.take(&context, &self.sets, input, frames)
+    }
+
+    /// The decision for all ports: the data sets first, then each port (IEEE 1588-2019, 9.3.3 and
+    /// 9.3.5).
+    fn decide(&mut self)
+        requires sound { IsSound self.old }
+        ensures sound { IsSound self.new }
+        ensures length { self.new.ports.len ≡ self.old.ports.len }
+        ensures core { (o : Options) (c : Core) → CoreRepresents o self.old c
+            → CoreRepresents o self.new (with_codes (own_of o) (best_among c.moment c.ports) c) }
+        ensures others { OthersStay self.old.sets self.new.sets }
+    {
+        let own = self.sets.own;
+        let parent = self.sets.parent;
+        self.scratch.bests.clear();
+        push_bests(&self.ports, self.moment, &mut self.scratch.bests);
+        let best = ebest(self.scratch.bests.items());
+        codes_with(
+            &own,
+            &best,
+            self.scratch.bests.items(),
+            &mut self.scratch.codes,
+        );
+        apply_codes(&mut self.sets, &self.scratch.codes, &best);
+        let is_new = is_new_parent(&best, parent);
+        decide_ports(
+            &mut self.ports,
+            &self.scratch.codes,
+            is_new,
+            self.moment,
+            self.sets.steps,
+        );
+    }
+
+    /// The port that kept an Announce of the sender sets announce receipt anew, where that is its
+    /// best.
+    fn renew(&mut self, number: u16, sender: PortId)
+        requires sound { IsSound self.old }
+        requires some { 1 ≤ number }
+        requires there { number ≤ self.old.ports.len }
+        ensures sound { IsSound self.new }
+        ensures length { self.new.ports.len ≡ self.old.ports.len }
+        ensures core { (o : Options) (c : Core) → IsHeard number c.ports sender → CoreRepresents o self.old c
+            → CoreRepresents o self.new (after_hearing number c) }
+        ensures sets { self.new.sets ≡ self.old.sets }
+    {
+        let moment = self.moment;
+        let port = &mut self.ports[number as usize - 1];
+        port.renew(moment, sender);
+    }
+
+    /// The decision that an entry raises, with the sender of its kept Announce, if it is one.
+    pub(crate) fn rule(&mut self, number: u16, sender: Option<PortId>)
+        requires sound { IsSound self.old }
+        requires some { 1 ≤ number }
+        requires there { number ≤ self.old.ports.len }
+        ensures sound { IsSound self.new }
+        ensures length { self.new.ports.len ≡ self.old.ports.len }
+        ensures core { (o : Options) (fate : Option Fate) (c : Core) → IsKeptAt number fate sender c.ports → CoreRepresents o self.old c
+            → CoreRepresents o self.new (with_decision o fate number c) }
+        ensures others { OthersStay self.old.sets self.new.sets }
+    {
+        self.decide();
+        if let Some(sender) = sender {
+            self.renew(number, sender);
+        }
+    }
+}
