@@ -1,8 +1,4 @@
-pub mod Giving
-pub mod Advancing
-pub mod Holding
-pub mod Copying
-pub mod Machines
-pub mod Entries
-pub mod Bounds
-pub mod Histories
+pub mod PortEntries
+pub mod EffectBounds
+pub mod EntryLemmas
+pub mod HubLemmas

@@ -1,7 +1,7 @@
 -- A hub: its scenario, its history and the clocks' logs; and what an event adds to it.
-use Rattle.std.specs.Prelude.{◌≡◌, ◌≤◌, List, [], ◌∷◌, length, map, fold, reverse, Option, None}
-use Rattle.model_clock.specs.declared.state.ClockState.{ClockState}
+use Rattle.std.specs.Prelude.{◌≡◌, ◌≤◌, true, List, [], ◌∷◌, length, reverse, is_some, Option, None}
 use Rattle.ptp_profile.specs.declared.seats.LogEntry.{LogEntry}
+use Rattle.ptp_profile.specs.Logs.{AreLawful, no_logs, with_orders}
 use Rattle.bc_history.specs.declared.entry.Entry.{Entry}
 use Rattle.bc_history.specs.declared.entry.Input.{Input}
 use Rattle.bc_history.specs.declared.entry.Input.TheVariants.{Down}
@@ -9,12 +9,11 @@ use Rattle.bc_history.specs.declared.entry.Seen.{Seen}
 use Rattle.bc_history.specs.declared.scenario.Scenario.{Scenario}
 use Rattle.bc_history.specs.Effects.{entry_after}
 use Rattle.bc_history.specs.History.{IsHistory}
+use Rattle.bc_history.specs.Inputs.{port_of}
 use Rattle.bc_history.specs.ScenarioRules.{IsScenario}
 use Rattle.bc_history.specs.Step.{state_of}
-use Rattle.bc_history.specs.World.{with_order}
-use Rattle.hub_core.specs.Machine.{IsMachine, clocks_by}
+use Rattle.hub_core.specs.Machine.{IsMachine}
 use Rattle.hub_core.specs.Reading.{input_seen}
-use Rattle.hub_core.specs.Rolling.{AreLawful}
 use Rattle.hub_core.specs.declared.hub.Hub.TheInside.{Inside}
 
 -- entries and logs have the newest first; the logs are by rising clock
@@ -25,19 +24,28 @@ pub record HubState : Type 0 where
 
 -- before the first entry
 abbrev pub opened : Scenario → HubState
-opened s = record { scenario = s; entries = []; logs = map (λ (clock : ClockState). []) s.clocks }
+opened s = record { scenario = s; entries = []; logs = no_logs s.clocks }
+
+-- the input is a port's own
+abbrev pub IsOwn : Input → Type 0
+IsOwn input = is_some (port_of input) ≡ true
+
+-- the entry that an input makes with a reading
+abbrev pub entry_by : HubState → Input → Option Seen → Entry
+entry_by h input seen = entry_after h.scenario h.entries input seen
+
+-- the hub after an entry: it is the newest, and its orders are the newest of the logs
+abbrev pub with_entry : HubState → Entry → HubState
+with_entry h e = record h { entries = e ∷ h.entries; logs = with_orders h.logs e.effects.orders }
+
+-- the reading of the newest entry, if there is one
+abbrev pub newest_seen : List Entry → Option Seen
+newest_seen [] = None
+newest_seen (e ∷ before) = e.seen
 
 -- the reading that comes with an input: that of its port's clock, after all entries of the clock's log
 abbrev pub reading_at : HubState → Input → Option Seen
-reading_at h input = input_seen h.scenario.clocks (clocks_by h.scenario) h.logs input
-
--- the entry that an input makes
-abbrev pub entry_by : HubState → Input → Entry
-entry_by h input = entry_after h.scenario h.entries input (reading_at h input)
-
--- the hub after an input: one entry more, and its orders in the logs
-abbrev pub with_event : HubState → Input → HubState
-with_event h input = record h { entries = entry_by h input ∷ h.entries; logs = fold with_order h.logs (entry_by h input).effects.orders }
+reading_at h input = input_seen h.scenario h.logs input
 
 -- the orders of each clock's log are the history's, all and in order, and each change bears the stamp in force before it
 abbrev pub AreLawfulLogs : HubState → Type 0

@@ -1,7 +1,5 @@
-pub mod Rolling
-pub mod Holding
 pub mod Reading
 pub mod Rooms
-pub mod Telling
+pub mod Effects
 pub mod Machine
 pub mod Hubs

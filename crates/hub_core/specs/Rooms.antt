@@ -1,6 +1,7 @@
 -- Places for what an event tells, and for its copy.
 use Rattle.std.specs.Prelude.{◌≡◌, ℕ, ◌*◌, ◌≤◌, [], length, All}
 use Rattle.ptp_base.specs.Room.{Reserved}
+use Rattle.ptp_base.specs.declared.limits.TheConstants.{SENT_MAX}
 use Rattle.bc_history.specs.declared.entry.Effects.{Effects}
 use Rattle.bc_history.specs.declared.entry.Sent.{Sent}
 use Rattle.hub_core.specs.declared.rooms.Rooms.{Rooms}
@@ -23,12 +24,12 @@ pub record AreCopies (ports clocks : ℕ) (c : Copies) : Type 0 where
   pub moves : HasPlacesFor (2 * ports) c.moves
   pub orders : HasPlacesFor (2 * clocks) c.orders
   pub sends : HasPlacesFor 2 c.sends
-  pub first : HasPlacesFor 64 c.first
-  pub second : HasPlacesFor 64 c.second
+  pub first : HasPlacesFor SENT_MAX c.first
+  pub second : HasPlacesFor SENT_MAX c.second
 
--- a frame of at most 64 octets, the length of an Announce (13.5)
+-- a frame no longer than an Announce (13.5)
 abbrev pub IsShort : Sent → Type 0
-IsShort sent = length sent.octets ≤ 64
+IsShort sent = length sent.octets ≤ SENT_MAX
 
 -- what an event of ports tells, with so many ports and clocks: at most two moves a port, two orders a clock, and two short frames
 pub record AreFew (ports clocks : ℕ) (f : Effects) : Type 0 where

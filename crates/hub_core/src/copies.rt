@@ -1,12 +1,13 @@
 ghost use Rattle.std.specs.Prelude.{◌≡◌, ℕ, ◌+◌, ◌≤◌, List, [], ◌++◌, length, take, drop, All};
+ghost use Rattle.ptp_base.specs.declared.limits.TheConstants.{SENT_MAX};
 ghost use Rattle.hub_core.specs.Rooms.{AreCopies, AreFew, HasPlacesFor, IsShort};
 
 use crate::rooms::Copies;
-use bc_history::{Effects, Sends, Sent};
+use bc_history::{Effects, Entry, Sends, Sent};
 use ptp_base::{Items, Octets, Room};
 use std::alloc::Global;
 
-/// The elements again, in reserved places. Takes no memory.
+/// The elements again, in reserved places. Does not allocate.
 fn copied<T: Copy + Drop>(from: &[T], out: Room<T>) -> Items<T>
     requires { HasPlacesFor (length from.now) out }
     ensures { result ≡ from.now }
@@ -18,10 +19,10 @@ fn copied<T: Copy + Drop>(from: &[T], out: Room<T>) -> Items<T>
     out.done()
 }
 
-/// The frame again, in reserved places. Takes no memory.
+/// The frame again, in reserved places. Does not allocate.
 fn copied_frame(sent: &Sent, room: Room<u8>) -> Sent
     requires short { IsShort sent.now }
-    requires room { HasPlacesFor 64 room }
+    requires room { HasPlacesFor SENT_MAX room }
     ensures { result ≡ sent.now }
 {
     let mut room = room;
@@ -32,10 +33,10 @@ fn copied_frame(sent: &Sent, room: Room<u8>) -> Sent
     }
 }
 
-/// The frame of an index again, where there is one, in reserved places. Takes no memory.
+/// The frame of an index again, where there is one, in reserved places. Does not allocate.
 fn push_frame(from: &[Sent], at: usize, room: Room<u8>, out: Room<Sent>) -> Room<Sent>
     requires short { All IsShort from.now }
-    requires room { HasPlacesFor 64 room }
+    requires room { HasPlacesFor SENT_MAX room }
     requires place { 1 ≤ out.spare }
     ensures items { result.items ≡ out.items ++ take 1 (drop at from.now) }
     ensures spare { out.spare ≤ result.spare + 1 }
@@ -47,12 +48,12 @@ fn push_frame(from: &[Sent], at: usize, room: Room<u8>, out: Room<Sent>) -> Room
     out
 }
 
-/// The frames again, at most two, in reserved places. Takes no memory.
+/// The frames again, at most two, in reserved places. Does not allocate.
 fn copied_frames(from: &[Sent], first: Room<u8>, second: Room<u8>, out: Room<Sent>) -> Sends
     requires few { length from.now ≤ 2 }
     requires short { All IsShort from.now }
-    requires first { HasPlacesFor 64 first }
-    requires second { HasPlacesFor 64 second }
+    requires first { HasPlacesFor SENT_MAX first }
+    requires second { HasPlacesFor SENT_MAX second }
     requires out { HasPlacesFor 2 out }
     ensures { result ≡ from.now }
 {
@@ -62,9 +63,10 @@ fn copied_frames(from: &[Sent], first: Room<u8>, second: Room<u8>, out: Room<Sen
 }
 
 impl Copies {
-    /// What an event told, again. Takes no memory.
+    /// What an event told, again. Does not allocate.
     pub fn of(self, alloc: Global, effects: &Effects) -> Effects
-        requires places { (ports : ℕ) × ((clocks : ℕ) × (AreCopies ports clocks self × AreFew ports clocks effects.now)) }
+        requires places { (ports : ℕ) × ((clocks : ℕ)
+            × (AreCopies ports clocks self × AreFew ports clocks effects.now)) }
         ensures { result ≡ effects.now }
     {
         let Copies {
@@ -98,7 +100,7 @@ fn trimmed<T: Drop>(items: Items<T>) -> Items<T>
 }
 
 /// What an event told, in as little memory as the allocator has for it.
-pub fn trimmed_effects(effects: Effects) -> Effects
+fn trimmed_effects(effects: Effects) -> Effects
     ensures { result ≡ effects }
 {
     let Effects {
@@ -122,5 +124,23 @@ pub fn trimmed_effects(effects: Effects) -> Effects
         told,
         asked,
         answers,
+    }
+}
+
+/// An entry in as little memory as the allocator has for it.
+pub fn trimmed_entry(entry: Entry) -> Entry
+    ensures { result ≡ entry }
+{
+    let Entry {
+        input,
+        moment,
+        seen,
+        effects,
+    } = entry;
+    Entry {
+        input,
+        moment,
+        seen,
+        effects: trimmed_effects(effects),
     }
 }

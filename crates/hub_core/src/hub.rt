@@ -1,33 +1,32 @@
-ghost use Rattle.std.specs.Prelude.{◌≡◌, ℕ, ◌≤◌, ◌<◌, ◌↔◌, List, [], ◌∷◌, length, reverse, Some, Err, IfOk, OnOk, OnErr};
+ghost use Rattle.std.specs.Prelude.{◌≡◌, ◌↔◌, length, reverse, Err, IfOk, OnOk, OnErr};
+ghost use Rattle.std.specs.Option.{option_and_then};
+ghost use Rattle.ptp_base.specs.declared.limits.TheConstants.{ENTRIES_MAX};
+ghost use Rattle.ptp_profile.specs.Logs.{logs_from};
 ghost use Rattle.ptp_profile.specs.Timers.{due_of};
 ghost use Rattle.bc_history.specs.History.{IsHistory};
 ghost use Rattle.bc_history.specs.Inputs.{port_at};
 ghost use Rattle.bc_history.specs.Next.{IsDue};
 ghost use Rattle.bc_history.specs.State.{HubPort};
 ghost use Rattle.bc_history.specs.Step.{state_of};
-ghost use Rattle.discipline_seat.specs.Seats.{logs_from};
-ghost use Rattle.hub_core.specs.Hubs.{HubState, draft_entry, entry_by, opened, with_event, AreLawfulLogs};
-ghost use Rattle.bc_ports.specs.Taking.{IsServed};
+ghost use Rattle.hub_core.specs.Hubs.{AreLawfulLogs, HubState, IsOwn, draft_entry, entry_by, newest_seen, opened, reading_at, with_entry};
 
-use crate::copies::trimmed_effects;
+use crate::copies::trimmed_entry;
 use crate::machine::Machine;
+use crate::own_input::port_input;
 use crate::rooms::{Copies, Rooms};
 use bc_history::{Effects, Entries, Entry, Input, Logs, Scenario};
-use ptp_base::{Items, NoMemory};
+use ptp_base::{ENTRIES_MAX, Items, NoMemory};
 use ptp_profile::Timer;
 use std::alloc::Global;
 use std::marker::Model;
 use std::snapshot::Snapshot;
-
-/// The most entries that a history has.
-const MOST: usize = 131_071;
 
 /// Why the hub takes no event.
 #[derive(Clone, Copy, Debug, PartialEq, Eq)]
 pub enum HubError {
     /// There was no memory.
     NoMemory,
-    /// The history has 131,071 entries.
+    /// The history has `ENTRIES_MAX` entries.
     Events,
 }
 
@@ -81,49 +80,49 @@ impl Hub {
 
     /// One event of a port: the history has one entry more, with the reading of the port's clock where
     /// the input comes with one, and its orders stand in the logs. The input is its port's next one,
-    /// and due. Events exactly where the history has 131,071 entries. A refusal leaves the hub as it
-    /// was.
+    /// and due. Events exactly where the history has `ENTRIES_MAX` entries. A refusal leaves the hub
+    /// as it was.
     pub fn event(&mut self, input: Input) -> Result<Effects, HubError>
         requires due { IsDue self.old.scenario (state_of self.old.scenario self.old.entries) input }
-        requires served { IsServed input }
-        ensures events { (result ≡ Err HubError.Events) ↔ (length self.old.entries ≡ 131071) }
-        ensures taken { OnOk result (self.new ≡ with_event self.old input) }
-        ensures effects { IfOk result (λ effects. effects ≡ (entry_by self.old input).effects) }
+        requires own { IsOwn input }
+        ensures events { (result ≡ Err HubError.Events) ↔ (length self.old.entries ≡ ENTRIES_MAX) }
+        ensures entry { OnOk result (self.new
+            ≡ with_entry self.old (entry_by self.old input (newest_seen self.new.entries))) }
+        ensures reading { OnOk result (newest_seen self.new.entries ≡ reading_at self.old input) }
+        ensures effects { IfOk result (λ effects. effects
+            ≡ (entry_by self.old input (newest_seen self.new.entries)).effects) }
         ensures same { OnErr result (self.new ≡ self.old) }
     {
-        if self.entries.len() >= MOST {
+        if self.entries.len() >= ENTRIES_MAX as usize {
             return Err(HubError::Events);
         }
-        let ports = self.machine.state.ports.len();
+        let ports = self.machine.core.ports.len();
         let clocks = self.machine.roles.clocks();
         let rooms = Rooms::with(self.alloc, ports, clocks)?;
         let copies = Copies::with(self.alloc, ports, clocks)?;
         self.machine.roles.reserve()?;
         let last = self.entries.len();
         self.entries.push(draft(self.alloc))?;
-        let served = self.machine.serve(self.alloc, &input, rooms);
-        let effects = copies.of(self.alloc, &served.effects);
-        let entry = Entry {
-            input,
-            moment: served.moment,
-            seen: served.seen,
-            effects: trimmed_effects(served.effects),
-        };
-        self.entries.set(last, entry);
+        let entry = self.machine.serve(self.alloc, port_input(input), rooms);
+        let effects = copies.of(self.alloc, &entry.effects);
+        self.entries.set(last, trimmed_entry(entry));
         Ok(effects)
     }
 
-    /// The moment and the timer of a port that is due first, if one is set. The port is there. Takes
-    /// no memory.
+    /// The moment and the timer of a port that is due first, if the port is there and one is set.
+    /// Does not allocate.
     pub fn due(&self, port: u16) -> Option<(u64, Timer)>
-        requires some { 1 ≤ port }
-        requires there { port ≤ length self.now.scenario.ports }
-        ensures { (h : HubPort) → port_at (state_of self.now.scenario self.now.entries).core.ports port ≡ Some h → result ≡ due_of h.port.timers }
+        ensures { result ≡ option_and_then (λ (h : HubPort). due_of h.port.timers)
+            (port_at (state_of self.now.scenario self.now.entries).core.ports port) }
     {
-        self.machine.state.ports[port as usize - 1].engine.due()
+        if port == 0 {
+            return None;
+        }
+        let port = self.machine.core.ports.get(port as usize - 1)?;
+        port.engine.due()
     }
 
-    /// How many queries came. Takes no memory.
+    /// How many queries came. Does not allocate.
     pub fn asked(&self) -> u32
         ensures { result ≡ (state_of self.now.scenario self.now.entries).queries }
     {
@@ -131,7 +130,7 @@ impl Hub {
     }
 
     /// Lends the history, the oldest entry first: each entry was due after those before it, and has the
-    /// moment and the effects that follow. Takes no memory.
+    /// moment and the effects that follow. Does not allocate.
     pub fn entries(&self) -> &Entries
         ensures entries { result.now ≡ reverse self.now.entries }
         ensures history { IsHistory self.now.scenario self.now.entries }
@@ -140,7 +139,7 @@ impl Hub {
         &self.entries
     }
 
-    /// The history, the oldest entry first, and the clocks' logs. Takes no memory.
+    /// The history, the oldest entry first, and the clocks' logs. Does not allocate.
     pub fn part(self) -> (Entries, Logs)
         ensures entries { result.0 ≡ reverse self.entries }
         ensures logs { result.1 ≡ logs_from 0 self.scenario.clocks self.logs }

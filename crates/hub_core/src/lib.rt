@@ -4,17 +4,15 @@
 #![tactic(auto)]
 
 mod copies;
+mod effects;
 mod hub;
 mod machine;
 mod opening;
-mod roles;
+mod own_input;
 mod rooms;
-mod telling;
 
+pub use bc_history::{
+    Answers, AskError, Effects, Entries, Entry, Input, Logs, Moved, Moves, Outcome, RoleOrders,
+    Scenario, Seen, Sends, Sent, Told,
+};
 pub use hub::{Hub, HubError};
-pub use machine::{Machine, Served};
-pub use roles::Roles;
-pub use rooms::{Copies, Rooms};
-
-#[cfg(test)]
-mod roles_tests;

@@ -1,9 +1,10 @@
 ghost use Rattle.std.specs.Prelude.{◌≤◌, IfOk};
+ghost use Rattle.ptp_base.specs.declared.limits.TheConstants.{CLOCKS_MAX, PORTS_MAX};
 ghost use Rattle.hub_core.specs.Rooms.{AreRooms, AreCopies};
 
 use bc_history::{Moved, Sent};
 use port_engine::Frames;
-use ptp_base::{NoMemory, Room};
+use ptp_base::{NoMemory, Room, SENT_MAX};
 use ptp_profile::RoleOrder;
 use std::alloc::Global;
 
@@ -26,14 +27,11 @@ pub struct Copies {
     pub second: Room<u8>,
 }
 
-/// The most octets of a frame that a port sends.
-const LONGEST: usize = 64;
-
 impl Rooms {
     /// For so many ports and clocks.
     pub fn with(alloc: Global, ports: usize, clocks: usize) -> Result<Rooms, NoMemory>
-        requires ports { ports ≤ 32 }
-        requires clocks { clocks ≤ 16 }
+        requires ports { ports ≤ PORTS_MAX }
+        requires clocks { clocks ≤ CLOCKS_MAX }
         ensures { IfOk result (AreRooms ports clocks) }
     {
         let mut frames = Frames::new(alloc);
@@ -50,16 +48,16 @@ impl Rooms {
 impl Copies {
     /// For so many ports and clocks.
     pub fn with(alloc: Global, ports: usize, clocks: usize) -> Result<Copies, NoMemory>
-        requires ports { ports ≤ 32 }
-        requires clocks { clocks ≤ 16 }
+        requires ports { ports ≤ PORTS_MAX }
+        requires clocks { clocks ≤ CLOCKS_MAX }
         ensures { IfOk result (AreCopies ports clocks) }
     {
         Ok(Copies {
             moves: Room::with(alloc, 2 * ports)?,
             orders: Room::with(alloc, 2 * clocks)?,
             sends: Room::with(alloc, 2)?,
-            first: Room::with(alloc, LONGEST)?,
-            second: Room::with(alloc, LONGEST)?,
+            first: Room::with(alloc, SENT_MAX as usize)?,
+            second: Room::with(alloc, SENT_MAX as usize)?,
         })
     }
 }

@@ -3,7 +3,7 @@ use Rattle.bc_history.specs.Opening.{opening}
 use Rattle.bc_history.specs.ScenarioRules.{IsScenario}
 use Rattle.bc_history.specs.declared.scenario.Scenario.{Scenario}
 use Rattle.hub_core.specs.Machine.{IsMachine}
-use Rattle.hub_core.proofs.Histories.{hub-opened}
+use Rattle.hub_core.proofs.HubLemmas.{hub-opened}
 use Rattle.hub_core.proofs.hub.Hub.new.Goals as goal
 
 pub invariant_of-result : goal.invariant_of-result

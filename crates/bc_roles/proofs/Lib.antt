@@ -1,0 +1,5 @@
+pub mod Agreement
+pub mod EdgeHolders
+pub mod Allowance
+pub mod Generation
+pub mod Representation

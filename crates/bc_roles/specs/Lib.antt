@@ -1,0 +1,5 @@
+pub mod Stamps
+pub mod RolesView
+pub mod RolesInvariant
+pub mod OrderRules
+pub mod NextRoles

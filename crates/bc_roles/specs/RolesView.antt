@@ -1,0 +1,44 @@
+-- What is kept of the roles, and the history's roles that it stands for.
+use Rattle.std.specs.Prelude.{◌≡◌, ℕ, List, length, replicate}
+use Rattle.model_clock.specs.declared.state.ClockState.{ClockState}
+use Rattle.ptp_profile.specs.declared.roles.RoleOrder.{RoleOrder}
+use Rattle.ptp_profile.specs.declared.roles.Stamp.{Stamp}
+use Rattle.ptp_profile.specs.Logs.{AreLawful}
+use Rattle.ptp_profile.specs.Roles.{no_stamp}
+use Rattle.role_gen.specs.Generations.{Generation, no_generation}
+use Rattle.discipline_seat.specs.Seats.{Seats, opened}
+use Rattle.bc_history.specs.State.{Core, Roles}
+use Rattle.bc_history.specs.RolePhase.{after_roles, orders_now}
+use Rattle.bc_roles.specs.Stamps.{stamps_of}
+
+-- the edges with their generation, the stamp of each clock's last order, and the seats
+pub record RolesView : Type 0 where
+  pub generation : Generation
+  pub stamps : List Stamp
+  pub seats : Seats
+
+abbrev pub roles_view : Generation → List Stamp → Seats → RolesView
+roles_view generation stamps seats = record { generation = generation; stamps = stamps; seats = seats }
+
+-- nothing drives a clock, and nothing was ordered or changed
+abbrev pub no_roles : ℕ → List ClockState → RolesView
+no_roles rows clocks = roles_view (no_generation (length clocks)) (replicate (length clocks) no_stamp) (opened rows clocks)
+
+-- what is kept stands for the history's roles: generation, edges, the stamp of each clock's last order, and the orders of the logs
+pub record RolesRepresent (v : RolesView) (r : Roles) : Type 0 where
+  pub gener : v.generation.gener ≡ r.gener
+  pub edges : v.generation.edges ≡ r.edges
+  pub stamps : v.stamps ≡ stamps_of (length r.edges) r.orders
+  pub lawful : AreLawful r.orders v.seats.logs
+
+-- the roles went on by the ports' states and the parent, with these orders
+pub record HaveAdvanced (c : Core) (r : Roles) (new : RolesView) (orders : List RoleOrder) : Type 0 where
+  pub roles : RolesRepresent new (after_roles c r)
+  pub orders_are : orders ≡ orders_now c r
+
+-- what never changes
+pub record IsSameTable (old new : RolesView) : Type 0 where
+  pub rows : new.seats.rows ≡ old.seats.rows
+  pub openings : new.seats.openings ≡ old.seats.openings
+  pub clocks : length new.stamps ≡ length old.stamps
+  pub logs : length new.seats.logs ≡ length old.seats.logs

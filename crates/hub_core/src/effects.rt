@@ -1,0 +1,49 @@
+ghost use Rattle.std.specs.Prelude.{◌≡◌, length, map};
+ghost use Rattle.hub_core.specs.Effects.{effects_with, sent_by};
+ghost use Rattle.hub_core.specs.Rooms.{HasPlacesFor};
+
+use bc_history::{Effects, RoleOrders, Sends, Sent};
+use bc_ports::EventOutcome;
+use port_engine::Frames;
+use ptp_base::{Items, Room};
+use std::alloc::Global;
+
+/// The frames that a port sent, in reserved places. Does not allocate.
+pub fn sends_of(port: u16, frames: Frames, out: Room<Sent>) -> Sends
+    requires { HasPlacesFor (length frames.items) out }
+    ensures { result ≡ map (sent_by port) frames.items }
+{
+    let mut out = out;
+    for octets in frames.into_items().into_vec() {
+        out.push(Sent { port, octets });
+    }
+    out.done()
+}
+
+/// What an event of a port tells: followers are told nothing, and nobody asks.
+pub fn effects_with(
+    alloc: Global,
+    outcome: EventOutcome,
+    orders: RoleOrders,
+    frames: Sends,
+) -> Effects
+    ensures { result ≡ effects_with outcome orders frames }
+{
+    let EventOutcome {
+        fate,
+        states,
+        parent,
+        measure,
+    } = outcome;
+    Effects {
+        fate,
+        states,
+        parent,
+        orders,
+        measure,
+        frames,
+        told: None,
+        asked: None,
+        answers: Items::new(alloc),
+    }
+}
