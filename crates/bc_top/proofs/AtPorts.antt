@@ -1,29 +1,31 @@
 -- The next input of a port by its cursor, and what it is of.
-use Rattle.std.proofs.Common.{◌≡◌, ◌≢◌, ℕ, ◌+◌, ◌<◌, Bool, true, false, cond, refl, sym, ap, subst, ◌∙◌, eqb, arith, inl, inr, List, [], ◌∷◌, length, filter, set, get_or-set_other, get_or-set_same, Option, Some, slice_get, eq-eqb, ne_eqb}
+use Rattle.std.proofs.Common.{◌≡◌, ◌≢◌, ℕ, suc, ◌+◌, ◌<◌, None, Bool, true, false, cond, refl, sym, ap, subst, ◌∙◌, eqb, arith, inl, inr, List, [], ◌∷◌, length, set, get_or-set_other, get_or-set_same, Option, Some, slice_get, eq-eqb, ne_eqb}
+use Rattle.std.specs.Prelude.{option_map, option_and_then}
 use Rattle.std.proofs.lemmas.Bool.Decides.{eqb_tells}
-use Rattle.std.proofs.lemmas.Option.{same_Some, slice_get_within, get_or_from_slice_get, slice_get-get_or}
+use Rattle.std.proofs.lemmas.Option.{slice_get_within, get_or_from_slice_get, slice_get-get_or}
 use Rattle.std.proofs.Math.ListN.{length-set}
 use Rattle.ptp_base.specs.declared.port.PortConf.{PortConf}
 use Rattle.ptp_profile.specs.declared.port.Timer.{Timer}
 use Rattle.ptp_profile.specs.Timers.{due_of}
-use Rattle.ptp_profile.specs.declared.seats.LogEntry.{LogEntry}
 use Rattle.bc_history.specs.declared.entry.Entry.{Entry}
 use Rattle.bc_history.specs.declared.entry.Input.{Input}
 use Rattle.bc_history.specs.declared.entry.Input.TheVariants.{Timed}
+use Rattle.bc_history.specs.declared.entry.Seen.{Seen}
 use Rattle.bc_history.specs.declared.scenario.Happening.{Happening}
 use Rattle.bc_history.specs.declared.scenario.Happening.TheVariants.{Frame as Frame_record, Down as Down_record, Up as Up_record}
 use Rattle.bc_history.specs.declared.scenario.Record.{Record}
 use Rattle.bc_history.specs.declared.scenario.Scenario.{Scenario}
 use Rattle.bc_history.specs.State.{HubPort}
-use Rattle.bc_history.specs.Inputs.{port_of}
-use Rattle.bc_history.specs.Next.{port_input, records_of, record_or_timer, input_of}
-use Rattle.bc_history.specs.World.{port_reading}
-use Rattle.bc_history.proofs.Faces.{port-state_of}
+use Rattle.bc_history.specs.Inputs.{is_read, port_of, port_at, tick_of}
+use Rattle.bc_history.specs.Next.{records_of, record_or_timer, input_of, next_input}
+use Rattle.bc_history.specs.World.{port_reading, seen_of}
+use Rattle.bc_history.proofs.PortIdentities.{port-state_of}
+use Rattle.hub_core.specs.Hubs.{HubState, reading_at}
 use Rattle.bc_top.specs.Cursor.{is_record_of, taken_by, IsNextOf, IsCursor, AreCursors}
-use Rattle.bc_top.specs.Loop.{IsDueAt, ports_after, waiting_world, reading_by}
+use Rattle.bc_top.specs.Loop.{IsDueAt, ports_after, ports_of, waiting_world}
 use Rattle.bc_top.proofs.NextInputs.{next-is}
 use Rattle.bc_top.proofs.Cursors.{Cursor-opening, Cursor-next, Cursor-record}
-use Rattle.bc_top.proofs.Taken.{taken-state_of}
+use Rattle.bc_top.proofs.Taken.{taken-state_of, taken_by-more}
 
 -- ---- what an input is of
 
@@ -40,17 +42,27 @@ port-due s entries k input due =
     next-is (λ (i : Input). port_of i ≡ Some p) p (slice_get (records_of s p) h.taken) (due_of h.port.timers) input (λ r there. port-happening p r.tick r.what) (λ tick timer. refl) due.next
     ∙ ap (λ (p : ℕ). Some p) (port-state_of s entries k h due.there).number
 
+-- the configuration of the port of index k
+conf-port : (s : Scenario) (entries : List Entry) (k : ℕ) (h : HubPort) (p : Option ℕ)
+    → slice_get (ports_after s entries) k ≡ Some h → p ≡ Some (k + 1) → option_and_then (port_at s.ports) p ≡ Some h.port.conf
+conf-port s entries k h p there number =
+    let same : k + 1 ≡ suc k = omega arith in
+    ap (λ (q : Option ℕ). option_and_then (port_at s.ports) q) number
+    ∙ (ap (λ (n : ℕ). port_at s.ports n) same ∙ (port-state_of s entries k h there).conf)
+
 -- a reading is one of the clock that the scenario has the port on
-pub reading-port : (s : Scenario) (entries : List Entry) (logs : List (List LogEntry)) (k : ℕ) (h : HubPort) (conf : PortConf) (input : Input) → slice_get (ports_after s entries) k ≡ Some h → slice_get s.ports k ≡ Some conf
-    → port_reading s (waiting_world s entries logs) h input ≡ reading_by s entries logs conf input
-reading-port s entries logs k h conf input there is =
-    let same : h.port.conf ≡ conf = same_Some h.port.conf conf (sym (port-state_of s entries k h there).conf ∙ is) in
-    ap (λ (c : PortConf). reading_by s entries logs c input) same
+pub reading-port : (hub : HubState) (k : ℕ) (h : HubPort) (input : Input) → slice_get (ports_of hub) k ≡ Some h
+    → port_of input ≡ Some (k + 1) → port_reading hub.scenario (waiting_world hub) h input ≡ reading_at hub input
+reading-port hub k h input there number =
+    let s = hub.scenario in
+    let read : PortConf → Seen = λ (conf : PortConf). seen_of s (waiting_world hub) conf.clock (tick_of input) in
+    let found = conf-port s hub.entries k h (port_of input) there number in
+    ap (λ (conf : Option PortConf). cond (is_read input) (option_map read conf) None) (sym found)
 
 -- ---- the next input by the cursor
 
 pub port_input-cursor : (s : Scenario) (entries : List Entry) (k c : ℕ) (h : HubPort) → slice_get (ports_after s entries) k ≡ Some h → IsCursor s.records (k + 1) (taken_by (k + 1) entries) c
-    → port_input s h ≡ record_or_timer (k + 1) (slice_get s.records c) (due_of h.port.timers)
+    → next_input s h ≡ record_or_timer (k + 1) (slice_get s.records c) (due_of h.port.timers)
 port_input-cursor s entries k c h there at =
     ap (λ (p : ℕ). record_or_timer p (slice_get (records_of s p) h.taken) (due_of h.port.timers)) (port-state_of s entries k h there).number
     ∙ (ap (λ (n : ℕ). record_or_timer (k + 1) (slice_get (records_of s (k + 1)) n) (due_of h.port.timers)) (taken-state_of s entries k h there)
@@ -63,19 +75,13 @@ record-happening q p tick (Frame_record octets) = refl
 record-happening q p tick Down_record = refl
 record-happening q p tick Up_record = refl
 
-count-if : (b : Bool) (e : Entry) (es : List Entry) → b ≡ false → length (cond b (e ∷ es) es) ≡ length es
-count-if true e es h = cc
-count-if false e es h = refl
-
-count-one : (b : Bool) (e : Entry) (es : List Entry) → b ≡ true → length (cond b (e ∷ es) es) ≡ length es + 1
-count-one true e es h = omega arith
-count-one false e es h = cc
-
 taken-other : (q : ℕ) (e : Entry) (before : List Entry) → is_record_of q e.input ≡ false → taken_by q (e ∷ before) ≡ taken_by q before
-taken-other q e before other = count-if (is_record_of q e.input) e (filter (λ (x : Entry). is_record_of q x.input) before) other
+taken-other q e before other =
+    taken_by-more q e before ∙ ap (λ (b : Bool). cond b (taken_by q before + 1) (taken_by q before)) other
 
 taken-one : (q : ℕ) (e : Entry) (before : List Entry) → is_record_of q e.input ≡ true → taken_by q (e ∷ before) ≡ taken_by q before + 1
-taken-one q e before one = count-one (is_record_of q e.input) e (filter (λ (x : Entry). is_record_of q x.input) before) one
+taken-one q e before one =
+    taken_by-more q e before ∙ ap (λ (b : Bool). cond b (taken_by q before + 1) (taken_by q before)) one
 
 -- in the beginning each cursor stands at its port's first record
 pub Cursors-opening : (s : Scenario) (cursors : List ℕ) → ((k c : ℕ) → slice_get cursors k ≡ Some c → IsNextOf s.records (k + 1) 0 c) → AreCursors s [] cursors

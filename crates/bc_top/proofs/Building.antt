@@ -14,7 +14,7 @@ use Rattle.bc_history.specs.declared.scenario.Happening.{Happening}
 use Rattle.bc_history.specs.declared.scenario.Happening.TheVariants.{Frame, Down, Up}
 use Rattle.bc_history.specs.declared.scenario.Record.{Record}
 use Rattle.bc_history.specs.declared.scenario.Scenario.{Scenario}
-use Rattle.bc_history.specs.Own.{read_frame}
+use Rattle.bc_history.specs.PortPhase.{read_frame}
 use Rattle.bc_top.specs.Built.{IsTiming, IsReadTiming, IsTimed, IsUntimed, IsBuilt, HasFollowers, IsUnbuilt}
 
 -- ---- one or the other

@@ -5,12 +5,12 @@ use Rattle.bc_history.specs.declared.entry.Input.{Input}
 use Rattle.bc_history.specs.declared.scenario.Scenario.{Scenario}
 use Rattle.bc_history.specs.State.{HubPort}
 use Rattle.bc_history.specs.Inputs.{tick_of}
-use Rattle.bc_history.specs.Next.{port_input}
+use Rattle.bc_history.specs.Next.{next_input}
 use Rattle.bc_top.specs.Ticks.{IsTickAt, IsFirstTick, IsNoneTick}
 use Rattle.bc_top.specs.Loop.{IsDueAt, IsFirstDue, IsNoneDue, ticks_of}
 
 abbrev next_tick : Scenario → HubPort → Option ℕ
-next_tick s h = option_map tick_of (port_input s h)
+next_tick s h = option_map tick_of (next_input s h)
 
 tick-due : (s : Scenario) (ports : List HubPort) (k : ℕ) (input : Input) → IsDueAt s ports k input → IsTickAt (ticks_of s ports) s.options.duration k (tick_of input)
 tick-due s ports k input due = record {
@@ -25,7 +25,7 @@ pub record IsDueBy (s : Scenario) (ports : List HubPort) (k t : ℕ) : Type 0 wh
   pub due : IsDueAt s ports k input
   pub tick : tick_of input ≡ t
 
-due-input : (s : Scenario) (ports : List HubPort) (k t : ℕ) (h : HubPort) (input : Option Input) → slice_get ports k ≡ Some h → port_input s h ≡ input → option_map tick_of input ≡ Some t → t ≤ s.options.duration → IsDueBy s ports k t
+due-input : (s : Scenario) (ports : List HubPort) (k t : ℕ) (h : HubPort) (input : Option Input) → slice_get ports k ≡ Some h → next_input s h ≡ input → option_map tick_of input ≡ Some t → t ≤ s.options.duration → IsDueBy s ports k t
 due-input s ports k t h None there next is in_time = cc
 due-input s ports k t h (Some input) there next is in_time =
     let same : tick_of input ≡ t = same_Some (tick_of input) t is in
@@ -33,7 +33,7 @@ due-input s ports k t h (Some input) there next is in_time =
 
 due-port : (s : Scenario) (ports : List HubPort) (k t : ℕ) (port : Option HubPort) → slice_get ports k ≡ port → option_map (next_tick s) port ≡ Some (Some t) → t ≤ s.options.duration → IsDueBy s ports k t
 due-port s ports k t None there is in_time = cc
-due-port s ports k t (Some h) there is in_time = due-input s ports k t h (port_input s h) there refl (same_Some (next_tick s h) (Some t) is) in_time
+due-port s ports k t (Some h) there is in_time = due-input s ports k t h (next_input s h) there refl (same_Some (next_tick s h) (Some t) is) in_time
 
 due-tick : (s : Scenario) (ports : List HubPort) (k t : ℕ) → IsTickAt (ticks_of s ports) s.options.duration k t → IsDueBy s ports k t
 due-tick s ports k t at = due-port s ports k t (slice_get ports k) refl (sym (slice_get-map (next_tick s) ports k) ∙ at.there) at.in_time
@@ -67,11 +67,11 @@ FirstDue-from_ticks s ports ticks k is f = due-first s ports k (subst (λ ts. Is
 
 -- and the port's next input is that one
 pub FirstDue-next : (s : Scenario) (ports : List HubPort) (ticks : List (Option ℕ)) (k : ℕ) (h : HubPort) (input : Input) → ticks ≡ ticks_of s ports → IsFirstTick ticks s.options.duration k
-    → slice_get ports k ≡ Some h → port_input s h ≡ Some input → IsFirstDue s ports k input
+    → slice_get ports k ≡ Some h → next_input s h ≡ Some input → IsFirstDue s ports k input
 FirstDue-next s ports ticks k h input is f there next =
     let (other, first) = FirstDue-from_ticks s ports ticks k is f in
     let port : first.due.port ≡ h = same_Some first.due.port h (sym first.due.there ∙ there) in
-    let same : other ≡ input = same_Some other input (sym first.due.next ∙ (ap (λ (g : HubPort). port_input s g) port ∙ next)) in
+    let same : other ≡ input = same_Some other input (sym first.due.next ∙ (ap (λ (g : HubPort). next_input s g) port ∙ next)) in
     subst (λ i. IsFirstDue s ports k i) same first
 
 -- or none is due

@@ -2,8 +2,13 @@
 use Rattle.std.proofs.Common.{◌≡◌, ℕ, zero, suc, ◌+◌, ◌<◌, ◌≤◌, Bool, true, false, cond, refl, sym, ap, subst, ◌∙◌, arith, inl, inr, List, [], ◌∷◌, fold, filter, Option, Some, None, ltb, leb, leb-true, lt-ltb, le-ltb, le-leb}
 use Rattle.std.proofs.lemmas.Bool.{cases_lt, lt-leb, false≢true}
 use Rattle.bc_history.specs.declared.entry.Who.TheVariants.{Port as A_port}
-use Rattle.bc_history.specs.World.{Candidate, sooner}
+use Rattle.ptp_base.specs.Least.{lesser}
+use Rattle.bc_history.specs.World.{Candidate}
 use Rattle.bc_top.specs.Ticks.{IsTickAt, IsFirstTick, IsNoneTick}
+
+-- the one with the lesser tick, the first of equals
+abbrev pub sooner : Option Candidate → Candidate → Option Candidate
+sooner = lesser (λ (c : Candidate). c.tick)
 
 abbrev pub candidate : ℕ → ℕ → Candidate
 candidate p t = record { tick = t; busy = false; who = A_port p }

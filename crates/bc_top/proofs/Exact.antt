@@ -4,7 +4,8 @@ use Rattle.std.proofs.lemmas.List.{append-nil}
 use Rattle.std.specs.Io.KnownBytes.{Consumes, IsAtEnd}
 use Rattle.text_io.specs.declared.reason.Reason.{Reason}
 use Rattle.text_io.specs.declared.reason.Reason.TheVariants.{Unbuilt}
-use Rattle.bc_top.specs.Reading.{Reads, AreRead, IsReadWhole, most_octets}
+use Rattle.ptp_base.specs.declared.limits.TheConstants.{TEXT_MAX}
+use Rattle.bc_top.specs.Reading.{Reads, AreRead, IsReadWhole}
 use Rattle.bc_top.specs.Call.{Call, IsTranscriptOf, IsRefusal, IsOverfull}
 use Rattle.bc_top.specs.Causes.{IsCaused}
 use Rattle.bc_top.specs.Complete.{IsEndAt, IsComplete}
@@ -28,7 +29,7 @@ octets_within r text octets told read = within_text r.left_after text octets (rw
 
 -- ---- the end at a text that was read whole
 
-done-at : (text out : List ℕ) → length text ≤ most_octets → IsTranscriptOf text out → IsEndAt text Done
+done-at : (text out : List ℕ) → length text ≤ TEXT_MAX → IsTranscriptOf text out → IsEndAt text Done
 done-at text out short made = record {
   done = λ few s run stands built world. inl refl;
   events = λ few s stands built events. absurd (ends_apart text made.scenario s made.run made.stands stands made.world events);
@@ -40,7 +41,7 @@ done-at text out short made = record {
 same_refusal : (line other : ℕ) (reason further : Reason) → line ≡ other → reason ≡ further → Refused line reason ≡ Refused other further
 same_refusal line other reason further lines reasons = cc
 
-refused-at : (text : List ℕ) (line : ℕ) (reason : Reason) → length text ≤ most_octets → IsRefusal text line reason → IsEndAt text (Refused line reason)
+refused-at : (text : List ℕ) (line : ℕ) (reason : Reason) → length text ≤ TEXT_MAX → IsRefusal text line reason → IsEndAt text (Refused line reason)
 refused-at text line reason short (inl fault) = record {
   done = λ few s run stands built world. absurd (stands-faultless text s line reason stands fault);
   events = λ few s stands built events. absurd (stands-faultless text s line reason stands fault);
@@ -56,7 +57,7 @@ refused-at text line reason short (inr of) = record {
   too_long = λ long. absurd (omega (arith, long, short));
 }
 
-events-at : (text : List ℕ) → length text ≤ most_octets → IsOverfull text → IsEndAt text Events
+events-at : (text : List ℕ) → length text ≤ TEXT_MAX → IsOverfull text → IsEndAt text Events
 events-at text short over = record {
   done = λ few s run stands built world. absurd (ends_apart text s over.scenario run stands over.stands world over.events);
   events = λ few s stands built events. inl refl;
@@ -74,7 +75,7 @@ memory-at text = record {
   too_long = λ long. inr refl;
 }
 
-too_long-at : (text : List ℕ) → (length text ≤ most_octets → ⊥) → IsEndAt text TooLong
+too_long-at : (text : List ℕ) → (length text ≤ TEXT_MAX → ⊥) → IsEndAt text TooLong
 too_long-at text long = record {
   done = λ few s run stands built world. absurd (long few);
   events = λ few s stands built events. absurd (long few);

@@ -5,14 +5,11 @@ use Rattle.model_clock.specs.declared.state.ClockState.{ClockState}
 use Rattle.ptp_profile.specs.declared.roles.RoleOrder.{RoleOrder}
 use Rattle.ptp_profile.specs.declared.seats.Log.{Log}
 use Rattle.ptp_profile.specs.declared.seats.LogEntry.{LogEntry}
-use Rattle.ptp_profile.specs.Logs.{IsLawful}
-use Rattle.discipline_seat.specs.Seats.{logs_from}
+use Rattle.ptp_profile.specs.Logs.{IsLawful, logs_from}
 use Rattle.bc_history.specs.declared.entry.Entry.{Entry}
-use Rattle.bc_history.specs.declared.entry.Run.{Run}
 use Rattle.bc_history.specs.declared.scenario.Scenario.{Scenario}
 use Rattle.bc_history.specs.Step.{state_of}
 use Rattle.hub_core.specs.Hubs.{AreLawfulLogs, HubState}
-use Rattle.hub_core.specs.Rolling.{AreLawful}
 use Rattle.bc_top.specs.Lawful.{HasLawfulLogs}
 
 -- a log of clocks from c on is that of its clock

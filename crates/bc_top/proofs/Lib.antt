@@ -17,3 +17,4 @@ pub mod Lines
 pub mod Texts
 pub mod Stood
 pub mod Exact
+pub mod Printed

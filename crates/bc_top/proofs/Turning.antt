@@ -1,9 +1,10 @@
 -- One turn of the loop over the hub.
 use Rattle.std.proofs.Common.{◌≡◌, ℕ, zero, suc, ◌+◌, ◌<◌, ◌≤◌, Bool, true, false, cond, ltb, refl, sym, ap, subst, ◌∙◌, arith, List, [], ◌∷◌, ◌++◌, length, take, set, get_or, Option, Some, None, slice_get}
-use Rattle.std.specs.Prelude.{option_map, MatchOption}
+use Rattle.std.specs.Prelude.{option_map, option_and_then, MatchOption}
 use Rattle.std.proofs.Math.ListN.{length-set}
 use Rattle.std.proofs.lemmas.Option.{same_Some, slice_get_within, slice_get-get_or, get_or_from_slice_get}
 use Rattle.std.proofs.lemmas.List.{take_more, take_all}
+use Rattle.ptp_base.specs.declared.limits.TheConstants.{PORTS_MAX}
 use Rattle.ptp_profile.specs.declared.port.Timer.{Timer}
 use Rattle.ptp_profile.specs.Timers.{due_of}
 use Rattle.bc_history.specs.declared.entry.Entry.{Entry}
@@ -14,8 +15,8 @@ use Rattle.bc_history.specs.declared.scenario.Scenario.{Scenario}
 use Rattle.bc_history.specs.State.{HubPort}
 use Rattle.bc_history.specs.Inputs.{tick_of, port_at}
 use Rattle.bc_history.specs.Step.{state_of}
-use Rattle.bc_history.specs.Next.{port_input, record_or_timer, input_of}
-use Rattle.bc_history.proofs.Faces.{ports-length}
+use Rattle.bc_history.specs.Next.{record_or_timer, input_of, next_input}
+use Rattle.bc_history.proofs.PortIdentities.{ports-length}
 use Rattle.hub_core.specs.Hubs.{HubState, opened}
 use Rattle.bc_top.specs.Cursor.{IsNextOf, AreCursors}
 use Rattle.bc_top.specs.Going.{IsUnderWay, IsGoing, IsDueFirst, IsFirst, IsPassed, HasServed}
@@ -47,24 +48,28 @@ next-sooner p (Some r) (Some t) = by_test p (ltb t.0 r.tick) r t
 
 -- a port's timer, as the hub tells it
 abbrev pub IsTimerAt : HubState → ℕ → Option (ℕ × Timer) → Type 0
-IsTimerAt hub p timer = (h : HubPort) → port_at (state_of hub.scenario hub.entries).core.ports p ≡ Some h → timer ≡ due_of h.port.timers
+IsTimerAt hub p timer =
+    timer ≡ option_and_then (λ (h : HubPort). due_of h.port.timers) (port_at (state_of hub.scenario hub.entries).core.ports p)
 
 timer-of : (s : Scenario) (hub : HubState) (k : ℕ) (h : HubPort) (timer : Option (ℕ × Timer)) → hub.scenario ≡ s → IsTimerAt hub (k + 1) timer → slice_get (ports_after s hub.entries) k ≡ Some h → timer ≡ due_of h.port.timers
 timer-of s hub k h timer is told there =
-    let same : suc k ≡ k + 1 = omega arith in
-    told h (subst (λ (p : ℕ). port_at (state_of hub.scenario hub.entries).core.ports p ≡ Some h) same (subst (λ (t : Scenario). slice_get (state_of t hub.entries).core.ports k ≡ Some h) (sym is) there))
+    let same : k + 1 ≡ suc k = omega arith in
+    let port : port_at (state_of hub.scenario hub.entries).core.ports (k + 1) ≡ Some h =
+    ap (λ (p : ℕ). port_at (state_of hub.scenario hub.entries).core.ports p) same
+    ∙ (ap (λ (t : Scenario). slice_get (state_of t hub.entries).core.ports k) is ∙ there) in
+    told ∙ ap (λ (x : Option HubPort). option_and_then (λ (g : HubPort). due_of g.port.timers) x) port
 
 next-of : (s : Scenario) (hub : HubState) (cursors : List ℕ) (k c : ℕ) (h : HubPort) (timer : Option (ℕ × Timer)) → IsGoing s hub cursors → slice_get cursors k ≡ Some c → IsTimerAt hub (k + 1) timer → slice_get (ports_after s hub.entries) k ≡ Some h
-    → port_input s h ≡ record_or_timer (k + 1) (slice_get s.records c) timer
+    → next_input s h ≡ record_or_timer (k + 1) (slice_get s.records c) timer
 next-of s hub cursors k c h timer going at told there =
     port_input-cursor s hub.entries k c h there (going.next k c at)
     ∙ ap (λ (t : Option (ℕ × Timer)). record_or_timer (k + 1) (slice_get s.records c) t) (sym (timer-of s hub k h timer going.under_way.scenario told there))
 
 -- ---- the ticks of all ports
 
-ticks-push : (s : Scenario) (ports : List HubPort) (h : HubPort) → ticks_of s (ports ++ h ∷ []) ≡ ticks_of s ports ++ option_map tick_of (port_input s h) ∷ []
+ticks-push : (s : Scenario) (ports : List HubPort) (h : HubPort) → ticks_of s (ports ++ h ∷ []) ≡ ticks_of s ports ++ option_map tick_of (next_input s h) ∷ []
 ticks-push s [] h = refl
-ticks-push s (g ∷ ports) h = ap (λ (ts : List (Option ℕ)). option_map tick_of (port_input s g) ∷ ts) (ticks-push s ports h)
+ticks-push s (g ∷ ports) h = ap (λ (ts : List (Option ℕ)). option_map tick_of (next_input s g) ∷ ts) (ticks-push s ports h)
 
 record IsThere (ports : List HubPort) (i : ℕ) : Type 0 where
   one : HubPort
@@ -86,7 +91,7 @@ ticks-more s hub cursors i c timer tick old new going at told is old_is new_is =
     let count : length ports ≡ length cursors = ports-length s hub.entries ∙ sym going.count in
     let lt : i < length ports = omega (arith, count, slice_get_within cursors i c at) in
     let port = port_there ports i lt in
-    let here : tick ≡ option_map tick_of (port_input s port.one) = is (i + 1) ∙ ap (λ (x : Option Input). option_map tick_of x) (sym (next-of s hub cursors i c port.one timer going at told port.there)) in
+    let here : tick ≡ option_map tick_of (next_input s port.one) = is (i + 1) ∙ ap (λ (x : Option Input). option_map tick_of x) (sym (next-of s hub cursors i c port.one timer going at told port.there)) in
     new_is
     ∙ (ap (λ (ts : List (Option ℕ)). ts ++ tick ∷ []) old_is
     ∙ (ap (λ (t : Option ℕ). ticks_of s (take i ports) ++ t ∷ []) here
@@ -110,12 +115,6 @@ pub due-from_ticks : (s : Scenario) (hub : HubState) (ticks lent : List (Option 
 due-from_ticks s hub ticks lent duration due is same end first =
     due-by_ticks s hub ticks due is
     (subst (λ (n : ℕ). MatchOption due (IsNoneTick ticks n) (IsFirstTick ticks n)) end (subst (λ (ts : List (Option ℕ)). MatchOption due (IsNoneTick ts duration) (IsFirstTick ts duration)) same first))
-
--- a port that the hub tells of is there
-pub within_ports : (s : Scenario) (hub : HubState) (cursors : List ℕ) (i : ℕ) → IsGoing s hub cursors → i < length cursors → i + 1 ≤ length hub.scenario.ports
-within_ports s hub cursors i going lt =
-    let same : length hub.scenario.ports ≡ length s.ports = ap (λ (t : Scenario). length t.ports) going.under_way.scenario in
-    omega (arith, same, going.count)
 
 -- ---- what the port that is due first takes
 
@@ -238,7 +237,7 @@ turn-passed_record s hub cursors k next records timer sooner r input turn none h
     (here_in s records c r turn.records_are here) is (subst (λ (rs : List Record). IsNextOf rs (k + 1) (c + 1) next) turn.records_are n)
 
 -- the port's number is small
-pub due_few : (s : Scenario) (hub : HubState) (cursors : List ℕ) (k : ℕ) → IsGoing s hub cursors → IsDueFirst s hub k → length s.ports ≤ 32 → k < 32
+pub due_few : (s : Scenario) (hub : HubState) (cursors : List ℕ) (k : ℕ) → IsGoing s hub cursors → IsDueFirst s hub k → length s.ports ≤ PORTS_MAX → k < PORTS_MAX
 due_few s hub cursors k going due few = omega (arith, due_at_cursor s hub cursors k going due, going.count)
 
 -- ---- before the first turn

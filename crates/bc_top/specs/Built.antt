@@ -9,7 +9,7 @@ use Rattle.bc_history.specs.declared.scenario.Happening.{Happening}
 use Rattle.bc_history.specs.declared.scenario.Happening.TheVariants.{Frame, Down, Up}
 use Rattle.bc_history.specs.declared.scenario.Record.{Record}
 use Rattle.bc_history.specs.declared.scenario.Scenario.{Scenario}
-use Rattle.bc_history.specs.Own.{read_frame}
+use Rattle.bc_history.specs.PortPhase.{read_frame}
 use Rattle.bc_top.specs.Loop.{IsQuiet}
 
 -- a message from which a port takes the time: Sync, Follow_Up and Delay_Resp

@@ -19,6 +19,10 @@ pub record Call : Type 0 where
   pub reads : Reads
   pub writes : Writes
 
+-- a call with these words, and what it did to source and sink
+abbrev pub call_of : List (List ℕ) → Reads → Writes → Call
+call_of words reads writes = record { words = words; reads = reads; writes = writes }
+
 -- the text stands for a scenario that is built, and out is the text of its run
 pub record IsTranscriptOf (text out : List ℕ) : Type 0 where
   pub scenario : Scenario

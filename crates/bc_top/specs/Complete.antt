@@ -1,5 +1,6 @@
 -- Which end a call has, but for memory, where no fault rose and the source tells what is left in it.
 use Rattle.std.specs.Prelude.{◌≡◌, ◌⊎◌, ℕ, ◌<◌, ◌≤◌, List, length, Some}
+use Rattle.ptp_base.specs.declared.limits.TheConstants.{TEXT_MAX}
 use Rattle.text_io.specs.Outside.{Rose}
 use Rattle.text_io.specs.declared.reason.Reason.{Reason}
 use Rattle.text_io.specs.declared.reason.Reason.TheVariants.{Unbuilt}
@@ -8,7 +9,6 @@ use Rattle.bc_history.specs.declared.entry.Run.{Run}
 use Rattle.bc_history.specs.ScenarioText.{Stands, IsFirstFault}
 use Rattle.bc_history.specs.World.{IsWorld, IsEnd, Events as Too_many}
 use Rattle.bc_top.specs.Words.{IsReplay}
-use Rattle.bc_top.specs.Reading.{most_octets}
 use Rattle.bc_top.specs.Built.{IsBuilt, IsUnbuilt}
 use Rattle.bc_top.specs.Call.{Call}
 use Rattle.bc_top.specs.declared.outcome.End.{End}
@@ -20,11 +20,11 @@ EndsBy due end = (end ≡ due) ⊎ (end ≡ NoMemory)
 
 -- the end that is due at a text
 pub record IsEndAt (text : List ℕ) (end : End) : Type 0 where
-  pub done : length text ≤ most_octets → (s : Scenario) (run : Run) → Stands text s → IsBuilt s → IsWorld s run → EndsBy Done end
-  pub events : length text ≤ most_octets → (s : Scenario) → Stands text s → IsBuilt s → IsEnd s Too_many → EndsBy Events end
-  pub unbuilt : length text ≤ most_octets → (s : Scenario) → Stands text s → IsUnbuilt s → EndsBy (Refused 0 Unbuilt) end
-  pub refused : length text ≤ most_octets → (line : ℕ) (reason : Reason) → IsFirstFault text line reason → EndsBy (Refused line reason) end
-  pub too_long : most_octets < length text → EndsBy TooLong end
+  pub done : length text ≤ TEXT_MAX → (s : Scenario) (run : Run) → Stands text s → IsBuilt s → IsWorld s run → EndsBy Done end
+  pub events : length text ≤ TEXT_MAX → (s : Scenario) → Stands text s → IsBuilt s → IsEnd s Too_many → EndsBy Events end
+  pub unbuilt : length text ≤ TEXT_MAX → (s : Scenario) → Stands text s → IsUnbuilt s → EndsBy (Refused 0 Unbuilt) end
+  pub refused : length text ≤ TEXT_MAX → (line : ℕ) (reason : Reason) → IsFirstFault text line reason → EndsBy (Refused line reason) end
+  pub too_long : TEXT_MAX < length text → EndsBy TooLong end
 
 abbrev pub IsComplete : Call → End → Type 0
 IsComplete c end = IsReplay c.words → ¬ (Rose c.reads.faults c.reads.faults_after) → ¬ (Rose c.writes.faults c.writes.faults_after) → (text : List ℕ) → c.reads.left ≡ Some text → IsEndAt text end

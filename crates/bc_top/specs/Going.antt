@@ -1,8 +1,10 @@
 -- Where a loop over the hub stands.
-use Rattle.std.specs.Prelude.{◌≡◌, ℕ, ◌≤◌, List, [], ◌∷◌, length, slice_set, None}
+use Rattle.std.specs.Prelude.{◌≡◌, ℕ, ◌≤◌, List, ◌∷◌, length, slice_set, None, Some}
+use Rattle.ptp_base.specs.declared.limits.TheConstants.{ENTRIES_MAX}
 use Rattle.bc_history.specs.declared.entry.Entry.{Entry}
 use Rattle.bc_history.specs.declared.entry.Input.{Input}
 use Rattle.bc_history.specs.declared.scenario.Scenario.{Scenario}
+use Rattle.bc_history.specs.Inputs.{port_at}
 use Rattle.bc_history.specs.State.{HubPort}
 use Rattle.hub_core.specs.Hubs.{HubState}
 use Rattle.bc_top.specs.Cursor.{AreCursors}
@@ -10,16 +12,14 @@ use Rattle.bc_top.specs.Loop.{IsFirstDue, IsOnTheWay, ports_after}
 
 -- the last entry of none of the ports gave a measure
 abbrev pub AreUnmeasured : List HubPort → Type 0
-AreUnmeasured [] = Unit {0}
-AreUnmeasured (h ∷ hs) = (h.measured ≡ None) × AreUnmeasured hs
+AreUnmeasured ports = (p : ℕ) (h : HubPort) → port_at ports p ≡ Some h → h.measured ≡ None
 
 -- the hub is where the World of the scenario is after some number of turns
 pub record IsUnderWay (s : Scenario) (hub : HubState) : Type 0 where
   pub scenario : hub.scenario ≡ s
-  pub way : IsOnTheWay s hub.entries hub.logs
+  pub way : IsOnTheWay hub
   pub unmeasured : AreUnmeasured (ports_after s hub.entries)
-  pub clocks : length hub.logs ≡ length s.clocks
-  pub few : length hub.entries ≤ 131071
+  pub few : length hub.entries ≤ ENTRIES_MAX
 
 -- so it is, and each port's cursor stands at its next record
 pub record IsGoing (s : Scenario) (hub : HubState) (cursors : List ℕ) : Type 0 where

@@ -1,5 +1,5 @@
 -- Single lines of a transcript: each is the text of a list of one.
-use Rattle.std.specs.Prelude.{ℕ, List, [], ◌∷◌}
+use Rattle.std.specs.Prelude.{ℕ, Bool, ◌==◌, if◌then◌else◌, List, [], ◌∷◌, ◌++◌, codes}
 use Rattle.ptp_profile.specs.declared.roles.RoleOrder.{RoleOrder}
 use Rattle.bc_history.specs.declared.entry.Sent.{Sent}
 use Rattle.bc_history.specs.Text.{orders_text, frames_text, answers_text}
@@ -13,3 +13,8 @@ frame_text sent = frames_text (sent ∷ [])
 
 unfoldable pub answer_text : List ℕ → List ℕ
 answer_text answer = answers_text (answer ∷ [])
+
+-- octets behind four spaces where a line begins: at first if `begins`, and behind each newline
+abbrev pub margined : Bool → List ℕ → List ℕ
+margined begins [] = []
+margined begins (octet ∷ rest) = (if begins then codes "    " else []) ++ (octet ∷ margined (octet == 10) rest)

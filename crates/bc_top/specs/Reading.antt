@@ -1,13 +1,10 @@
 -- What reading a source to its end does to it.
 use Rattle.std.specs.Prelude.{◌≡◌, ℕ, ◌+◌, ◌≤◌, List, length, Option}
 use Rattle.std.specs.Io.KnownBytes.{Consumes, Keeps, IsAtEnd}
+use Rattle.ptp_base.specs.declared.limits.TheConstants.{TEXT_MAX}
 use Rattle.text_io.specs.Outside.{Counted}
 use Rattle.bc_top.specs.declared.read.ReadError.{ReadError}
 use Rattle.bc_top.specs.declared.read.ReadError.TheVariants.{Fault, TooLong, NoMemory}
-
--- the most octets that a text may have
-abbrev pub most_octets : ℕ
-most_octets = 33554432
 
 -- a source before a call and after it: what is left, where it tells that, and the count of its faults
 pub record Reads : Type 0 where
@@ -15,6 +12,11 @@ pub record Reads : Type 0 where
   pub left_after : Option (List ℕ)
   pub faults : ℕ
   pub faults_after : ℕ
+
+-- what was left before and after, and the counts of faults
+abbrev pub reads_of : Option (List ℕ) → Option (List ℕ) → ℕ → ℕ → Reads
+reads_of left left_after faults faults_after =
+    record { left = left; left_after = left_after; faults = faults; faults_after = faults_after }
 
 -- nothing was read
 pub record IsUnread (r : Reads) : Type 0 where
@@ -35,19 +37,19 @@ pub record IsReadPart (r : Reads) : Type 0 where
 pub record IsReadWhole (r : Reads) (text : List ℕ) : Type 0 where
   pub read : AreRead r text
   pub end : IsAtEnd r.left_after
-  pub short : length text ≤ most_octets
+  pub short : length text ≤ TEXT_MAX
 
 -- one octet more was read than a text may have, and none after it
 pub record IsReadTooFar (r : Reads) : Type 0 where
   pub octets : List ℕ
   pub read : AreRead r octets
-  pub long : length octets ≡ most_octets + 1
+  pub long : length octets ≡ TEXT_MAX + 1
 
 -- a read failed, after some octets
 pub record IsReadFault (r : Reads) : Type 0 where
   pub octets : List ℕ
   pub given : Consumes r.left r.left_after octets
-  pub short : length octets ≤ most_octets
+  pub short : length octets ≤ TEXT_MAX
   pub counted : Counted r.faults r.faults_after
 
 -- why a source was not read to its end

@@ -10,6 +10,11 @@ pub record Writes : Type 0 where
   pub faults : ℕ
   pub faults_after : ℕ
 
+-- what was written before and after, and the counts of faults
+abbrev pub writes_of : Option (List ℕ) → Option (List ℕ) → ℕ → ℕ → Writes
+writes_of written written_after faults faults_after =
+    record { written = written; written_after = written_after; faults = faults; faults_after = faults_after }
+
 -- nothing was written
 pub record IsUnwritten (w : Writes) : Type 0 where
   pub kept : Keeps w.written w.written_after

@@ -1,5 +1,5 @@
 ghost use Rattle.std.specs.Prelude.{◌≡◌, ◌↔◌, ◌<◌, ◌⊎◌, true, false, length, List, [], All, IsTrue, Ok, Err, Result};
-ghost use Rattle.bc_history.specs.Own.{read_frame};
+ghost use Rattle.bc_history.specs.PortPhase.{read_frame};
 ghost use Rattle.bc_top.specs.Loop.{IsQuiet};
 ghost use Rattle.bc_top.specs.Built.{IsTiming, IsTimed, IsUntimed, IsBuilt, IsUnbuilt};
 
@@ -65,7 +65,7 @@ fn are_untimed(options: &Options, records: &[Record]) -> bool
 }
 
 /// Whether the scenario is built: nobody acts but ports, and none of them takes the time from a
-/// frame. It reads each frame of the scenario once, and takes no memory.
+/// frame. It reads each frame of the scenario once. Does not allocate.
 pub fn is_built(s: &Scenario) -> bool
     ensures built { result ≡ true → IsBuilt s.now }
     ensures unbuilt { result ≡ false → IsUnbuilt s.now }

@@ -2,9 +2,9 @@
 #![tactic(auto)]
 
 mod built;
-pub mod cursor;
-pub mod due;
-pub mod laws;
+mod cursor;
+mod due;
+mod laws;
 mod next;
 mod outcome;
 mod parts;
@@ -15,7 +15,13 @@ mod transcript;
 mod words;
 mod write;
 
+pub use laws::{
+    a_scenario_is_built_or_not, cursors_stand_at_the_next, first_ticks_are_due_first,
+    others_stay_as_they_began, ports_go_by_their_cursors, the_loop_is_the_world,
+    turns_are_of_the_first_due,
+};
 pub use outcome::End;
+pub use text_io::Reason;
 pub use top::offline;
 
 #[cfg(test)]

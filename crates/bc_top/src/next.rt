@@ -1,5 +1,6 @@
 ghost use Rattle.std.specs.Prelude.{◌≡◌, ℕ, ◌+◌, ◌<◌, ◌≤◌, length, map, IfOk, MatchOption, slice_get};
 ghost use Rattle.std.specs.Option.{option_map};
+ghost use Rattle.ptp_base.specs.declared.limits.TheConstants.{PORTS_MAX};
 ghost use Rattle.bc_history.specs.Inputs.{tick_of};
 ghost use Rattle.bc_history.specs.Next.{input_of, record_or_timer};
 ghost use Rattle.bc_top.specs.Going.{IsGoing, IsDueFirst, IsFirst, IsPassed};
@@ -52,7 +53,7 @@ fn next_ticks(
     hub: &Hub,
     cursors: &[usize],
 ) -> Result<Vec<Option<u64>>, NoMemory>
-    requires few { length s.now.ports ≤ 32 }
+    requires few { length s.now.ports ≤ PORTS_MAX }
     requires going { IsGoing s.now hub.now cursors.now }
     ensures { IfOk result (λ ticks. ticks.items ≡ ticks_of s.now (ports_after s.now hub.now.entries)) }
 {
@@ -72,7 +73,7 @@ pub fn next_due(
     hub: &Hub,
     cursors: &[usize],
 ) -> Result<Option<usize>, NoMemory>
-    requires few { length s.now.ports ≤ 32 }
+    requires few { length s.now.ports ≤ PORTS_MAX }
     requires going { IsGoing s.now hub.now cursors.now }
     ensures { IfOk result (λ due. MatchOption due (IsNoneDue s.now (ports_after s.now hub.now.entries)) (IsDueFirst s.now hub.now)) }
 {
@@ -104,7 +105,7 @@ pub fn next_input(
     cursors: &[usize],
     k: usize,
 ) -> Result<(Input, usize), NoMemory>
-    requires few { length s.now.ports ≤ 32 }
+    requires few { length s.now.ports ≤ PORTS_MAX }
     requires going { IsGoing s.now hub.now cursors.now }
     requires due { IsDueFirst s.now hub.now k }
     ensures first { IfOk result (λ next. IsFirst s.now hub.now next.0) }

@@ -21,11 +21,11 @@ pub enum End {
     ReadFault,
     /// A write failed.
     WriteFault,
-    /// 131,071 entries were held and another event was due.
+    /// `ENTRIES_MAX` entries were held and another event was due.
     Events,
     /// There was no memory.
     NoMemory,
-    /// The source gave more than 33,554,432 octets.
+    /// The source gave more than `TEXT_MAX` octets.
     TooLong,
 }
 
@@ -52,7 +52,7 @@ impl End {
 pub enum NoTranscript {
     /// The text is no scenario, or line 0, its scenario is not built.
     Refused { line: u32, reason: Reason },
-    /// 131,071 entries were held and another event was due.
+    /// `ENTRIES_MAX` entries were held and another event was due.
     Events,
     /// There was no memory.
     NoMemory,

@@ -1,4 +1,5 @@
 ghost use Rattle.std.specs.Prelude.{◌≡◌, ℕ, ◌+◌, ◌-◌, ◌<◌, ◌≤◌, [], length, IfOk, IfErr, OnOk};
+ghost use Rattle.ptp_base.specs.declared.limits.TheConstants.{ENTRIES_MAX, PORTS_MAX};
 ghost use Rattle.bc_history.specs.World.{IsWorld};
 ghost use Rattle.bc_top.specs.Built.{IsBuilt};
 ghost use Rattle.bc_top.specs.Cursor.{AreCursors};
@@ -19,7 +20,7 @@ use std::alloc::Global;
 pub enum ReplayError {
     /// There was no memory.
     NoMemory,
-    /// 131,071 entries were held and another event was due.
+    /// `ENTRIES_MAX` entries were held and another event was due.
     Events,
 }
 
@@ -50,7 +51,7 @@ impl From<HubError> for ReplayError {
 
 /// The cursors of a run that begins: each at its port's first record.
 fn first_cursors(alloc: Global, s: &Scenario) -> Result<Vec<usize>, NoMemory>
-    requires few { length s.now.ports ≤ 32 }
+    requires few { length s.now.ports ≤ PORTS_MAX }
     ensures count { IfOk result (λ cursors. length cursors.items ≡ length s.now.ports) }
     ensures next { IfOk result (λ cursors. AreCursors s.now [] cursors.items) }
 {
@@ -68,7 +69,7 @@ fn serve(hub: &mut Hub, input: Input) -> Result<(), ReplayError>
     requires under_way { IsUnderWay hub.old.scenario hub.old }
     requires first { IsFirst hub.old.scenario hub.old input }
     ensures served { OnOk result (HasServed hub.old.scenario hub.old hub.new input) }
-    ensures few { OnOk result (length hub.old.entries < 131071) }
+    ensures few { OnOk result (length hub.old.entries < ENTRIES_MAX) }
     ensures error { IfErr result (IsReplayError hub.old.scenario) }
 {
     if let Err(error) = hub.event(input) {
@@ -87,11 +88,11 @@ fn take_turn(
     k: usize,
 ) -> Result<(), ReplayError>
     requires built { IsBuilt s.now }
-    requires few { length s.now.ports ≤ 32 }
+    requires few { length s.now.ports ≤ PORTS_MAX }
     requires going { IsGoing s.now hub.old cursors.old.items }
     requires due { IsDueFirst s.now hub.old k }
     ensures going { OnOk result (IsGoing s.now hub.new cursors.new.items) }
-    ensures more { OnOk result (131071 - length hub.new.entries < 131071 - length hub.old.entries) }
+    ensures more { OnOk result (ENTRIES_MAX - length hub.new.entries < ENTRIES_MAX - length hub.old.entries) }
     ensures error { IfErr result (IsReplayError s.now) }
 {
     let (input, cursor) = next_input(alloc, s, hub, cursors.as_slice(), k)?;
@@ -101,8 +102,8 @@ fn take_turn(
 }
 
 /// The run of a scenario that is built. Its logs are lawful: each has the history's orders for its
-/// clock, all and in order, and each change bears the stamp in force before it. At each turn it looks once at each port, and copies nothing
-/// of the history.
+/// clock, all and in order, and each change bears the stamp in force before it. At each turn it
+/// looks once at each port, and copies nothing of the history.
 pub fn replay(alloc: Global, s: &Scenario) -> Result<Run, ReplayError>
     requires built { IsBuilt s.now }
     ensures run { IfOk result (λ run. IsWorld s.now run) }

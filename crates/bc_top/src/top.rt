@@ -1,8 +1,10 @@
 ghost use Rattle.std.specs.Prelude.{◌≡◌, ℕ, ◌≤◌, ◌++◌, List, length, map, IfOk, IfErr, string_bytes};
 ghost use Rattle.bc_history.specs.ScenarioText.{Stands};
 ghost use Rattle.bc_top.specs.Built.{IsBuilt};
-ghost use Rattle.bc_top.specs.Reading.{most_octets};
-ghost use Rattle.bc_top.specs.Call.{Call, IsTranscriptOf, IsWithout};
+ghost use Rattle.ptp_base.specs.declared.limits.TheConstants.{TEXT_MAX};
+ghost use Rattle.bc_top.specs.Reading.{reads_of};
+ghost use Rattle.bc_top.specs.Writing.{writes_of};
+ghost use Rattle.bc_top.specs.Call.{IsTranscriptOf, IsWithout, call_of};
 ghost use Rattle.bc_top.specs.Causes.{IsCaused};
 ghost use Rattle.bc_top.specs.Complete.{IsComplete};
 
@@ -21,7 +23,7 @@ use text_io::{Reason, Sink, Source};
 
 /// The scenario that the text stands for, where it is built.
 fn built_scenario(alloc: Global, text: &[u8]) -> Result<Scenario, NoTranscript>
-    requires short { length text.now ≤ most_octets }
+    requires short { length text.now ≤ TEXT_MAX }
     ensures stands { IfOk result (λ s. Stands text.now s) }
     ensures built { IfOk result IsBuilt }
     ensures without { IfErr result (IsWithout text.now) }
@@ -42,7 +44,7 @@ fn built_scenario(alloc: Global, text: &[u8]) -> Result<Scenario, NoTranscript>
 
 /// The transcript of the run of the scenario that the text stands for.
 fn transcript_of(alloc: Global, text: &[u8]) -> Result<Octets, NoTranscript>
-    requires short { length text.now ≤ most_octets }
+    requires short { length text.now ≤ TEXT_MAX }
     ensures transcript { IfOk result (λ out. IsTranscriptOf text.now out) }
     ensures without { IfErr result (IsWithout text.now) }
 {
@@ -60,11 +62,9 @@ fn transcript_of(alloc: Global, text: &[u8]) -> Result<Octets, NoTranscript>
 
 /// Does what the words ask for.
 fn serve<S: Source, K: Sink>(alloc: Global, words: &[String], source: &mut S, sink: &mut K) -> End
-    ensures { IsCaused (record {
-      words = map string_bytes words.now;
-      reads = record { left = S.left source.old; left_after = S.left source.new; faults = S.faults source.old; faults_after = S.faults source.new };
-      writes = record { written = K.written sink.old; written_after = K.written sink.new; faults = K.faults sink.old; faults_after = K.faults sink.new };
-    }) result }
+    ensures { IsCaused (call_of (map string_bytes words.now)
+        (reads_of (S.left source.old) (S.left source.new) (S.faults source.old) (S.faults source.new))
+        (writes_of (K.written sink.old) (K.written sink.new) (K.faults sink.old) (K.faults sink.new))) result }
 {
     if !is_replay(words) {
         return End::Usage;
@@ -93,16 +93,12 @@ pub fn offline<S: Source, K: Sink>(
     source: &mut S,
     sink: &mut K,
 ) -> End
-    ensures caused { IsCaused (record {
-      words = map string_bytes words.now;
-      reads = record { left = S.left source.old; left_after = S.left source.new; faults = S.faults source.old; faults_after = S.faults source.new };
-      writes = record { written = K.written sink.old; written_after = K.written sink.new; faults = K.faults sink.old; faults_after = K.faults sink.new };
-    }) result }
-    ensures complete { IsComplete (record {
-      words = map string_bytes words.now;
-      reads = record { left = S.left source.old; left_after = S.left source.new; faults = S.faults source.old; faults_after = S.faults source.new };
-      writes = record { written = K.written sink.old; written_after = K.written sink.new; faults = K.faults sink.old; faults_after = K.faults sink.new };
-    }) result }
+    ensures caused { IsCaused (call_of (map string_bytes words.now)
+        (reads_of (S.left source.old) (S.left source.new) (S.faults source.old) (S.faults source.new))
+        (writes_of (K.written sink.old) (K.written sink.new) (K.faults sink.old) (K.faults sink.new))) result }
+    ensures complete { IsComplete (call_of (map string_bytes words.now)
+        (reads_of (S.left source.old) (S.left source.new) (S.faults source.old) (S.faults source.new))
+        (writes_of (K.written sink.old) (K.written sink.new) (K.faults sink.old) (K.faults sink.new))) result }
 {
     serve(alloc, words, source, sink)
 }

@@ -248,3 +248,34 @@ fn each_input_and_effect_is_written(rt: HostRuntime) -> Result<(), Fail> {
     assert_eq!(rt; text.items(), OUT);
     Ok(())
 }
+
+/// The response to a request for priority1, which is 128.
+const ANSWER: [u8; 56] = [
+    0x0d, 0x12, 0x00, 0x38, 0x00, 0x00, 0x00, 0x00, 0x00, 0x00, 0x00, 0x00, 0x00, 0x00, 0x00, 0x00,
+    0x00, 0x00, 0x00, 0x00, 0x02, 0x00, 0x00, 0xff, 0xfe, 0x00, 0x00, 0x01, 0x00, 0x00, 0x00, 0x00,
+    0x04, 0x7f, 0x00, 0x00, 0x00, 0x00, 0x00, 0x00, 0x00, 0x00, 0x00, 0x01, 0x00, 0x00, 0x02, 0x00,
+    0x00, 0x01, 0x00, 0x04, 0x20, 0x05, 0x80, 0x00,
+];
+
+const SHOWN: &[u8] = b"bc-transcript 1
+event 1 1 query 1 GET PRIORITY1
+  answer 0d12003800000000000000000000000000000000020000fffe00000100000000047f00000000000000000001000002000001000420058000
+    020000.fffe.000001-0 seq 0 RESPONSE MANAGEMENT PRIORITY1
+    priority1 128
+end 1
+";
+
+#[test]
+fn an_answer_that_is_shown_prints_its_lines(rt: HostRuntime) -> Result<(), Fail> {
+    let alloc = rt.alloc();
+    let text = octets(alloc, b"GET PRIORITY1")?;
+    let mut entry = entry(alloc, Input::Query { tick: 1, text }, 1);
+    entry.effects.answers = Items::from_vec(vec![in alloc; octets(alloc, &ANSWER)?]?);
+    let run = Run {
+        entries: Items::from_vec(vec![in alloc; entry]?),
+        logs: Items::new(alloc),
+    };
+    let text = transcript(alloc, &run).ok().ok_or("transcript")?;
+    assert_eq!(rt; text.items(), SHOWN);
+    Ok(())
+}

@@ -1,7 +1,9 @@
-ghost use Rattle.std.specs.Prelude.{◌≡◌, ℕ, List, [], ◌++◌, OnOk, IfOk, string_bytes};
+ghost use Rattle.std.specs.Prelude.{◌≡◌, ℕ, List, [], ◌++◌, OnOk, IfOk, IsTrue, string_bytes};
 ghost use Rattle.std.specs.Fmt.{AppendsText};
 ghost use Rattle.hex.specs.Hex.{encode_lower};
+ghost use Rattle.ptp_profile.specs.Queries.{lines_text, printed_lines, shows};
 
+use pmc_query::print;
 use ptp_base::{NoMemory, Octets};
 use std::alloc::Global;
 use std::fmt;
@@ -33,7 +35,7 @@ impl Writer {
         }
     }
 
-    /// The whole text, which takes no memory.
+    /// The whole text. Does not allocate.
     pub fn into_octets(self) -> Octets
         ensures { result ≡ self }
     {
@@ -61,6 +63,16 @@ impl Writer {
         ensures { IfOk result (λ digits. string_bytes digits ≡ encode_lower octets.now) }
     {
         Ok(hex::encode(self.alloc, octets)?)
+    }
+
+    /// The lines that print an answer which can be printed, each with its newline.
+    pub fn printed(&self, answer: &[u8]) -> Result<Octets, NoMemory>
+        requires { IsTrue (shows answer.now) }
+        ensures { IfOk result (λ text. text ≡ lines_text (printed_lines answer.now)) }
+    {
+        let mut text = Octets::new(self.alloc);
+        print(self.alloc, answer, &mut text)?;
+        Ok(text)
     }
 
     /// Adds a format: what `write!` calls.

@@ -1,5 +1,5 @@
 use Rattle.std.proofs.Common.{rules, ◌<◌, get_or, length, arith}
-use Rattle.bc_top.proofs.Turning.{due_at_cursor, due_few, within_ports, turn-timer, turn-passed_timer, turn-within, turn-record, turn-passed_record}
+use Rattle.bc_top.proofs.Turning.{due_at_cursor, due_few, turn-timer, turn-passed_timer, turn-within, turn-record, turn-passed_record}
 use Rattle.bc_top.proofs.next.next_input.Goals as goal
 
 pub overflow_cast-port : goal.overflow_cast-port
@@ -13,10 +13,6 @@ offset_bounds-cursors-k c = omega (arith, due_few c.args.s.now c.args.hub.now c.
 
 pub bounds-cursors-k : goal.bounds-cursors-k
 bounds-cursors-k c = due_at_cursor c.args.s.now c.args.hub.now c.args.cursors.now c.args.k c.requires.going c.requires.due
-
-pub due-timer-requires-clause-there : goal.due-timer-requires-clause-there
-due-timer-requires-clause-there c =
-    within_ports c.args.s.now c.args.hub.now c.args.cursors.now c.args.k c.requires.going (due_at_cursor c.args.s.now c.args.hub.now c.args.cursors.now c.args.k c.requires.going c.requires.due)
 
 pub returns-in-Some-clause-first : goal.returns-in-Some-clause-first
 returns-in-Some-clause-first c =

@@ -1,4 +1,5 @@
 use Rattle.std.proofs.Common.{◌-◌, length}
+use Rattle.ptp_base.specs.declared.limits.TheConstants.{ENTRIES_MAX}
 use Rattle.bc_top.specs.Going.{IsGoing}
 use Rattle.bc_top.proofs.replay.replay.Given as goal
 
@@ -6,4 +7,4 @@ abbrev pub invariant-turns : goal.invariant-turns
 invariant-turns l = IsGoing l.s l.hub l.cursors.items
 
 abbrev pub decreases-turns : goal.decreases-turns
-decreases-turns l = 131071 - length l.hub.entries
+decreases-turns l = ENTRIES_MAX - length l.hub.entries
