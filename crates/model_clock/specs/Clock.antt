@@ -1,37 +1,41 @@
--- A clock that drifts, is stepped and is tuned. All of this is the project's own model of a clock. Ticks, times and steps are in ns,
--- the ticks those of the scenario; frequencies and drifts are in ppb times 65,536.
+-- A clock that drifts, is stepped and is tuned (project) It is the project's own model of a clock.
+-- Ticks, times and steps are in ns, the ticks those of the scenario; frequencies and drifts are in
+-- ppb times 65,536.
 use Rattle.std.specs.Prelude.{ℕ, ℤ, pos, ◌-◌, ◌+ℤ◌, ◌*ℤ◌, ◌≤◌, int_lt, max, if◌then◌else◌, List, slice_index_or}
 use Rattle.ptp_base.specs.Floor.{IsWithin, floor_of}
-use Rattle.ptp_base.specs.declared.number.TheConstants.{FREQ_MAX, TICK_MAX, TIME_MAX}
+use Rattle.ptp_base.specs.declared.time.TheConstants.{FREQ_MAX, TICK_MAX, TIME_MAX}
 use Rattle.model_clock.specs.declared.state.ClockState.{ClockState}
 
--- own: a state that a clock may be in: its tick is at most 100,000 s, and its frequency within 900,000,000 ppb
+-- a state that a clock may be in: its tick is at most 100,000 s, and its frequency within
+-- 900,000,000 ppb
 pub record IsClock (s : ClockState) : Type 0 where
   pub tick : s.tick ≤ TICK_MAX
   pub freq : IsWithin FREQ_MAX s.freq
 
--- own: a time held within 0 and one nanosecond less than 2^33 seconds
+-- a time held within 0 and one nanosecond less than 2^33 seconds
 abbrev pub held_time : ℤ → ℤ
 held_time z = if int_lt TIME_MAX z then TIME_MAX else if int_lt z (pos 0) then pos 0 else z
 
--- own: how much time a clock counts at a rate while so many ns pass
-abbrev pub counted : ℤ → ℕ → ℤ
-counted rate elapsed = pos elapsed +ℤ floor_of (pos elapsed *ℤ rate) (pos 65536000000000)
+-- how much time a clock counts at a rate while so many ns pass
+abbrev pub time_gained : ℤ → ℕ → ℤ
+time_gained rate elapsed = pos elapsed +ℤ floor_of (pos elapsed *ℤ rate) (pos 65536000000000)
 
--- own: what a clock in a state reads at a tick; at a tick that isn't later than the state's, what it read there
+-- what a clock in a state reads at a tick; at a tick that isn't later than the state's, what it
+-- read there
 abbrev pub reading : ClockState → ℕ → ℤ
-reading s tick = held_time (s.time +ℤ counted (s.drift +ℤ s.freq) (tick - s.tick))
+reading s tick = held_time (s.time +ℤ time_gained (s.drift +ℤ s.freq) (tick - s.tick))
 
--- own: the state once the time was stepped and a new frequency set, at the greater of the tick and the state's own
-abbrev pub changed : ClockState → ℕ → ℤ → ℤ → ClockState
-changed s tick step freq = record {
+-- the state once the time was stepped and a new frequency set, at the greater of the tick and the
+-- state's own
+abbrev pub after_change : ClockState → ℕ → ℤ → ℤ → ClockState
+after_change s tick step freq = record {
   tick = max tick s.tick;
   time = held_time (reading s (max tick s.tick) +ℤ step);
   freq = freq;
   drift = s.drift;
 }
 
--- own: a clock at time 0 that does not drift
+-- a clock at time 0 that does not drift
 abbrev pub plain_clock : ClockState
 plain_clock = record { tick = 0; time = pos 0; freq = pos 0; drift = pos 0 }
 

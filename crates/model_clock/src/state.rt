@@ -1,5 +1,5 @@
 ghost use Rattle.std.specs.Prelude.{ℕ, ℤ, pos, ◌≡◌, ◌≤◌, ◌-◌, ◌+ℤ◌, ◌≤ℤ◌};
-ghost use Rattle.model_clock.specs.Clock.{IsClock, held_time, counted, reading, changed};
+ghost use Rattle.model_clock.specs.Clock.{IsClock, held_time, time_gained, reading, after_change};
 ghost use Rattle.ptp_base.specs.Floor.{IsWithin};
 
 use ptp_base::{FREQ_MAX, TICK_MAX, TIME_MAX, floor_div};
@@ -46,7 +46,7 @@ fn stepped(time: i64, step: i64) -> i64
 fn count(rate: i128, elapsed: u64) -> i128
     requires rate { IsWithin (pos 18446744073709551616) rate }
     requires elapsed { elapsed ≤ TICK_MAX }
-    ensures value { result ≡ counted rate elapsed }
+    ensures value { result ≡ time_gained rate elapsed }
     ensures few { IsWithin (pos 1000000000000000000000000000000000000) result }
 {
     let gained = floor_div(elapsed as i128 * rate, WHOLE);
@@ -92,7 +92,7 @@ impl ClockState {
         requires state { IsClock self.now }
         requires step { IsWithin TIME_MAX step }
         requires freq { IsWithin FREQ_MAX freq }
-        ensures value { result ≡ changed self.now tick step freq }
+        ensures value { result ≡ after_change self.now tick step freq }
         ensures again { IsClock result }
     {
         let at = tick.max(self.tick);
@@ -107,6 +107,6 @@ impl ClockState {
 
 /// A later tick never reads less, where the clock drifts by at most 10,000,000 ppb.
 pub fn later_reads_no_less()
-    ensures { (s : ClockState) (tick later : ℕ) → IsWithin FREQ_MAX s.freq → IsWithin (pos 655360000000) s.drift → tick ≤ later
-        → reading s tick ≤ℤ reading s later }
+    ensures { (s : ClockState) (tick later : ℕ) → IsWithin FREQ_MAX s.freq →
+        IsWithin (pos 655360000000) s.drift → tick ≤ later → reading s tick ≤ℤ reading s later }
 {}

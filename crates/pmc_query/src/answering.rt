@@ -2,17 +2,17 @@
 
 ghost use Rattle.std.specs.Prelude.{◌≡◌, ◌≤◌, ◌++◌, ◌∷◌, [], ◌==◌, ◌||◌, ℕ, length, map, IfOk, OnOk, OnErr, IsTrue, false};
 ghost use Rattle.std.specs.List.{list_all};
-ghost use Rattle.ptp_profile.specs.declared.management.Tlv.TheVariants.{Management, Error};
-ghost use Rattle.ptp_profile.specs.Fields.{fields_octets, id_fields, id_number, id_numbered};
-ghost use Rattle.ptp_profile.specs.Management.{managed_octets, IsShort};
-ghost use Rattle.ptp_profile.specs.Queries.{all_ports, answer_to, answers_octets, answers_to, can_be_set, can_show, clock_values, error_action, error_to, has_state, id_answers, is_for, is_of_ports, is_request, known_answers, port_values, ports_asked, response_to, responses, shows, tlv_answers};
-ghost use Rattle.pmc_query.specs.Sets.{answering, answering_port, ports_answers};
+ghost use Rattle.ptp_management.specs.declared.managed.Tlv.TheVariants.{Management, Error};
+ghost use Rattle.ptp_management.specs.ManagementFields.{fields_octets, id_fields};
+ghost use Rattle.ptp_management.specs.ManagementMessages.{managed_octets, IsShort};
+ghost use Rattle.ptp_management.specs.ManagementQueries.{all_ports, answer_to, answers_octets, answers_to, can_be_set, can_show, clock_values, error_action, error_to, has_state, is_for, is_of_ports, is_request, known_answers, port_values, response_to, responses, shows};
+ghost use Rattle.pmc_query.specs.AnsweredSets.{answering, answering_port, ports_answers};
 
 use crate::asking::{ALL_CLOCKS, ALL_PORTS};
 use crate::values::{clock_values, fields_octets, port_values};
 use data_sets::{DataSets, PortSet};
 use ptp_base::{NoMemory, Octets, PortId};
-use ptp_profile::management::{Action, Answers, Managed, ManagementId, Tlv};
+use ptp_management::{Action, Answers, Managed, ManagementId, Tlv};
 use ptp_tlv::{fields_of, number_of, numbered, width_of, write};
 use std::alloc::Global;
 use std::mem;
@@ -103,7 +103,7 @@ fn answer_to(d: &DataSets, r: &Managed, port: u16, action: Action, tlv: Tlv) -> 
 }
 
 // The octets of an answer.
-fn written(alloc: Global, domain: u8, m: &Managed) -> Result<Octets, NoMemory>
+fn octets_of(alloc: Global, domain: u8, m: &Managed) -> Result<Octets, NoMemory>
     requires short { IsShort m.now.tlv }
     requires shown { IsTrue (can_show m.now.action m.now.tlv) }
     ensures octets { IfOk result (λ octets. octets ≡ managed_octets domain m.now) }
@@ -122,12 +122,15 @@ fn error_to(
     id: u16,
     error: u16,
 ) -> Result<Answers, NoMemory>
-    ensures made { IfOk result (λ made. made ≡ map (managed_octets d.now.domain) (error_to (answering d.now) r.now id error)) }
+    ensures made { IfOk result
+        (λ made.
+        made
+        ≡ map (managed_octets d.now.domain) (error_to (answering d.now) r.now id error)) }
     ensures shown { IfOk result (λ made. IsTrue (list_all shows made)) }
 {
     let m = answer_to(d, r, 0, error_action(r.action), Tlv::Error { error, id });
     let mut made = Answers::new(alloc);
-    made.push(written(alloc, d.domain, &m)?)?;
+    made.push(octets_of(alloc, d.domain, &m)?)?;
     Ok(made)
 }
 
@@ -142,7 +145,11 @@ fn response_to(
 ) -> Result<Octets, NoMemory>
     requires each { length values.now ≡ length (id_fields id) }
     requires state { IsTrue (has_state id (fields_octets (id_fields id) values.now)) }
-    ensures octets { IfOk result (λ octets. octets ≡ managed_octets d.now.domain (response_to (answering d.now) r.now port id values.now)) }
+    ensures octets { IfOk result
+        (λ octets.
+        octets
+        ≡ managed_octets d.now.domain
+        (response_to (answering d.now) r.now port id values.now)) }
     ensures shown { IfOk result (λ octets. IsTrue (shows octets)) }
 {
     let tlv = Tlv::Management {
@@ -150,7 +157,7 @@ fn response_to(
         octets: fields_octets(alloc, fields_of(id), values)?,
     };
     let m = answer_to(d, r, port, Action::Response, tlv);
-    written(alloc, d.domain, &m)
+    octets_of(alloc, d.domain, &m)
 }
 
 // The one response of the clock itself.
@@ -161,7 +168,8 @@ fn clock_response(
     id: ManagementId,
 ) -> Result<Answers, NoMemory>
     requires clock { is_of_ports id ≡ false }
-    ensures made { IfOk result (λ made. made ≡ map (managed_octets d.now.domain) (responses (answering d.now) r.now id)) }
+    ensures made { IfOk result
+        (λ made. made ≡ map (managed_octets d.now.domain) (responses (answering d.now) r.now id)) }
     ensures shown { IfOk result (λ made. IsTrue (list_all shows made)) }
 {
     let values = clock_values(alloc, d, id)?;
@@ -177,7 +185,12 @@ fn port_response(
     r: &Managed,
     port: &PortSet,
 ) -> Result<Octets, NoMemory>
-    ensures octets { IfOk result (λ octets. octets ≡ managed_octets d.now.domain (response_to (answering d.now) r.now port.now.id.port ManagementId.PortDataSet (port_values (answering_port port.now)))) }
+    ensures octets { IfOk result
+        (λ octets.
+        octets
+        ≡ managed_octets d.now.domain
+        (response_to (answering d.now) r.now port.now.id.port
+        ManagementId.PortDataSet (port_values (answering_port port.now)))) }
     ensures shown { IfOk result (λ octets. IsTrue (shows octets)) }
 {
     let values = port_values(alloc, port)?;
@@ -193,7 +206,8 @@ fn port_response(
 
 // Whether a request asks a port.
 fn asks(r: &Managed, port: &PortSet) -> bool
-    ensures { result ≡ ((r.now.target.port == all_ports) || (r.now.target.port == port.now.id.port)) }
+    ensures { result
+        ≡ ((r.now.target.port == all_ports) || (r.now.target.port == port.now.id.port)) }
 {
     r.target.port == ALL_PORTS || r.target.port == port.id.port
 }
@@ -207,7 +221,8 @@ fn add_response(
     made: &mut Answers,
 ) -> Result<(), NoMemory>
     requires { IsTrue (list_all shows made.old) }
-    ensures made { OnOk result (made.new ≡ made.old ++ ports_answers (answering d.now) r.now (port.now ∷ [])) }
+    ensures made { OnOk result
+        (made.new ≡ made.old ++ ports_answers (answering d.now) r.now (port.now ∷ [])) }
     ensures shown { OnOk result (IsTrue (list_all shows made.new)) }
 {
     if !asks(r, port) {
@@ -237,7 +252,11 @@ fn known_answers(
     id: ManagementId,
     long: usize,
 ) -> Result<Answers, NoMemory>
-    ensures made { IfOk result (λ made. made ≡ map (managed_octets d.now.domain) (known_answers (answering d.now) r.now id long r.now.action)) }
+    ensures made { IfOk result
+        (λ made.
+        made
+        ≡ map (managed_octets d.now.domain)
+        (known_answers (answering d.now) r.now id long r.now.action)) }
     ensures shown { IfOk result (λ made. IsTrue (list_all shows made)) }
 {
     match r.action {
@@ -254,7 +273,7 @@ fn known_answers(
 }
 
 // The answers to a management message.
-#[tactic(auto, unfolding(ptp_profile::specs::Queries::answers_to))]
+#[tactic(auto, unfolding(ptp_management::specs::ManagementQueries::answers_to))]
 fn answers_to(alloc: Global, d: &DataSets, r: &Managed) -> Result<Answers, NoMemory>
     ensures made { IfOk result (λ made. made ≡ answers_octets (answering d.now) r.now) }
     ensures shown { IfOk result (λ made. IsTrue (list_all shows made)) }
@@ -302,7 +321,8 @@ pub fn answer(
     ensures err { OnErr result (out.new ≡ out.old) }
 
     // Each answer can be printed.
-    ensures shown { OnOk result (IsTrue (list_all shows (answers_octets (answering d.now) request.now))) }
+    ensures shown { OnOk result
+        (IsTrue (list_all shows (answers_octets (answering d.now) request.now))) }
 {
     let made = answers_to(alloc, d, request)?;
     append_all(alloc, made, out)

@@ -4,18 +4,18 @@ ghost use Rattle.std.specs.Prelude.{◌≡◌, ◌≤◌, ◌<◌, ◌+◌, ◌-
 ghost use Rattle.std.specs.Option.{option_copied};
 ghost use Rattle.std.specs.Char.{is_ascii_digit};
 ghost use Rattle.std.specs.List.{list_all, position};
-ghost use Rattle.ptp_profile.specs.Queries.{action_asked, action_named, aimed, asked_by, asked_of, name_asked, named_asked, is_number, number_of_digits, request_octets, request_of, target_asked, target_named, words_of};
-ghost use Rattle.pmc_query.specs.Words.{words_behind};
+ghost use Rattle.ptp_management.specs.ManagementQueries.{action_asked, action_named, aimed, asked_by, asked_of, name_asked, named_asked, is_number, number_of_digits, request_octets, target_asked, target_named, words_of};
+ghost use Rattle.pmc_query.specs.QueryWords.{words_behind};
 
 use ptp_base::{ClockId, NoMemory, Octets, PortId};
-use ptp_profile::management::{Action, AskError, Managed, ManagementId, Request, Tlv};
+use ptp_management::{Action, AskError, Managed, ManagementId, Request, Tlv};
 use ptp_tlv::{named, number_of, write};
 use std::alloc::Global;
 
-// The port that stands for all ports (IEEE 1588-2019, 15.4.1.3).
+/// The port that stands for all ports (IEEE 1588-2019, 15.4.1.3).
 pub const ALL_PORTS: u16 = 65535;
 
-// The clock that stands for all clocks (15.4.1.3).
+/// The clock that stands for all clocks (15.4.1.3).
 pub const ALL_CLOCKS: ClockId = ClockId { id: u64::MAX };
 
 // Where the first space stands.
@@ -138,7 +138,7 @@ fn target_asked(rest: Option<&[u8]>) -> Option<u16>
 }
 
 // A request for an id, where there is a target.
-fn aimed(action: Action, id: ManagementId, target: Option<u16>) -> Result<Request, AskError>
+fn request_for(action: Action, id: ManagementId, target: Option<u16>) -> Result<Request, AskError>
     ensures { result ≡ aimed action id target }
 {
     match target {
@@ -156,9 +156,9 @@ fn asked_of(action: Action, id: ManagementId, rest: Option<&[u8]>) -> Result<Req
     ensures { result ≡ asked_of action (words_behind (option_copied rest.entry)) id }
 {
     match action {
-        Action::Get => aimed(action, id, target_asked(rest)),
+        Action::Get => request_for(action, id, target_asked(rest)),
         Action::Set | Action::Response | Action::Command | Action::Acknowledge => {
-            aimed(action, id, Some(ALL_PORTS))
+            request_for(action, id, Some(ALL_PORTS))
         }
     }
 }

@@ -3,13 +3,13 @@
 ghost use Rattle.std.specs.Prelude.{◌≡◌, ◌≤◌, ◌++◌, length, OnOk, IsTrue};
 ghost use Rattle.std.specs.Fmt.{decimal, signed_decimal};
 ghost use Rattle.hex.specs.Hex.{encode_lower};
-ghost use Rattle.ptp_profile.specs.Naming.{identity_text, port_text, state_name};
-ghost use Rattle.ptp_profile.specs.Fields.{fits_form, form_text, state_numbered};
+ghost use Rattle.ptp_profile.specs.Port.PrintedNames.{identity_text, port_text, state_name};
+ghost use Rattle.ptp_management.specs.ManagementFields.{fits_form, form_text, state_numbered};
 
 use byteorder::{BigEndian, ByteOrder};
-use ptp_base::{NoMemory, Octets, PortId, eight};
-use ptp_profile::management::Form;
-use ptp_profile::numbers::port_at;
+use ptp_base::{NoMemory, Octets, PortId, PortState, eight};
+use ptp_management::Form;
+use ptp_profile::big_endian::port_at;
 use std::alloc::Global;
 
 /// Appends a number in decimal.
@@ -66,20 +66,37 @@ pub fn add_port(alloc: Global, port: &PortId, out: &mut Octets) -> Result<(), No
     add_decimal(alloc, port.port as u64, out)
 }
 
-// The name of the state of a number from 1 to 9 (IEEE 1588-2019, 8.2.15.3.1).
-fn state_name(number: u8) -> &'static str
-    ensures { result.now ≡ state_name (state_numbered number) }
+/// The name of a port's state (IEEE 1588-2019, 8.2.15.3.1). Does not allocate.
+pub fn state_name(state: &PortState) -> &'static str
+    ensures { result.now ≡ state_name state.now }
+{
+    match state {
+        PortState::Initializing => "INITIALIZING",
+        PortState::Faulty => "FAULTY",
+        PortState::Disabled => "DISABLED",
+        PortState::Listening => "LISTENING",
+        PortState::PreMaster => "PRE_MASTER",
+        PortState::Master => "MASTER",
+        PortState::Passive => "PASSIVE",
+        PortState::Uncalibrated => "UNCALIBRATED",
+        PortState::Slave => "SLAVE",
+    }
+}
+
+// The state of a number from 1 to 9 (IEEE 1588-2019, 8.2.15.3.1).
+fn state_of(number: u8) -> PortState
+    ensures { result ≡ state_numbered number }
 {
     match number {
-        1 => "INITIALIZING",
-        2 => "FAULTY",
-        3 => "DISABLED",
-        4 => "LISTENING",
-        5 => "PRE_MASTER",
-        6 => "MASTER",
-        7 => "PASSIVE",
-        8 => "UNCALIBRATED",
-        _ => "SLAVE",
+        1 => PortState::Initializing,
+        2 => PortState::Faulty,
+        3 => PortState::Disabled,
+        4 => PortState::Listening,
+        5 => PortState::PreMaster,
+        6 => PortState::Master,
+        7 => PortState::Passive,
+        8 => PortState::Uncalibrated,
+        _ => PortState::Slave,
     }
 }
 
@@ -99,6 +116,6 @@ pub fn add_value(alloc: Global, form: Form, piece: &[u8], out: &mut Octets) -> R
         }
         Form::Clock => add_clock(alloc, piece, out),
         Form::Port => add_port(alloc, &port_at(piece, 0), out),
-        Form::State => out.append(state_name(piece[0]).as_bytes()),
+        Form::State => out.append(state_name(&state_of(piece[0])).as_bytes()),
     }
 }

@@ -10,8 +10,9 @@ mod values;
 
 pub use answering::answer;
 pub use asking::{ask, spell};
+pub use forms::{add_hex, add_port, state_name};
 pub use printing::print;
-pub use ptp_profile::management::{Answers, AskError, Request};
+pub use ptp_management::{Answers, AskError, Request};
 pub use showing::shows;
 
 #[cfg(test)]

@@ -1,15 +1,15 @@
 //! The printed lines of an answer.
 
 ghost use Rattle.std.specs.Prelude.{◌≡◌, ◌≤◌, ◌++◌, ◌∷◌, [], length, drop, IfOk, OnOk, OnErr, IsTrue};
-ghost use Rattle.ptp_profile.specs.Fields.{fields_lines, fits_form, id_numbered, shape_lines, shape_of, width_of};
-ghost use Rattle.ptp_profile.specs.declared.management.Tlv.TheVariants.{Management, Error};
-ghost use Rattle.ptp_profile.specs.Queries.{action_text, can_show, is_known, lines_text, name_text, origin_text, printed_lines, shows, title_line, tlv_lines, values_lines};
-ghost use Rattle.ptp_tlv.specs.Lending.{managed_of, tlv_of};
+ghost use Rattle.ptp_management.specs.ManagementFields.{fields_lines, id_numbered, shape_lines, shape_of, width_of};
+ghost use Rattle.ptp_management.specs.declared.managed.Tlv.TheVariants.{Management, Error};
+ghost use Rattle.ptp_management.specs.ManagementQueries.{action_text, can_show, is_known, lines_text, name_text, origin_text, printed_lines, shows, title_line, tlv_lines, values_lines};
+ghost use Rattle.ptp_tlv.specs.LentMessages.{managed_of, tlv_of};
 
 use crate::forms::{add_decimal, add_hex, add_port, add_value};
 use crate::showing::lend_itself;
 use ptp_base::{NoMemory, Octets, two};
-use ptp_profile::management::{Action, Field, Form, ManagementId};
+use ptp_management::{Action, Field, Form, ManagementId};
 use ptp_tlv::{Lent, LentTlv, fields_of, name_of, numbered, shape_of};
 use std::alloc::Global;
 
@@ -52,7 +52,8 @@ fn add_name(alloc: Global, id: u16, out: &mut Octets) -> Result<(), NoMemory>
 // Appends the line of a field, if it is printed, from the octets that begin with the field's.
 fn add_field(alloc: Global, field: Field, octets: &[u8], out: &mut Octets) -> Result<(), NoMemory>
     requires { (shape_of field).width ≤ length octets.now }
-    ensures { OnOk result (out.new ≡ out.old ++ lines_text (shape_lines (shape_of field) octets.now)) }
+    ensures { OnOk result
+        (out.new ≡ out.old ++ lines_text (shape_lines (shape_of field) octets.now)) }
 {
     let shape = shape_of(field);
     if let Form::Silent = shape.form {
@@ -65,7 +66,7 @@ fn add_field(alloc: Global, field: Field, octets: &[u8], out: &mut Octets) -> Re
 }
 
 // What stands behind a field.
-fn behind(octets: &[u8], width: usize) -> &[u8]
+fn octets_behind(octets: &[u8], width: usize) -> &[u8]
     requires { width ≤ length octets.now }
     ensures { result.now ≡ drop width octets.now }
 {
@@ -85,14 +86,15 @@ fn add_fields(
     let mut rest = octets;
     for field in fields {
         add_field(alloc, *field, rest, out)?;
-        rest = behind(rest, shape_of(*field).width);
+        rest = octets_behind(rest, shape_of(*field).width);
     }
     Ok(())
 }
 
 // Appends the line of a response.
 fn add_title(alloc: Global, m: &Lent, id: u16, out: &mut Octets) -> Result<(), NoMemory>
-    ensures { OnOk result (out.new ≡ out.old ++ lines_text (title_line (managed_of m.now) id ∷ [])) }
+    ensures { OnOk result
+        (out.new ≡ out.old ++ lines_text (title_line (managed_of m.now) id ∷ [])) }
 {
     add_origin(alloc, m, out)?;
     out.append(b" MANAGEMENT ")?;
@@ -102,7 +104,8 @@ fn add_title(alloc: Global, m: &Lent, id: u16, out: &mut Octets) -> Result<(), N
 
 // Appends the line of an error.
 fn add_error(alloc: Global, m: &Lent, error: u16, id: u16, out: &mut Octets) -> Result<(), NoMemory>
-    ensures { OnOk result (out.new ≡ out.old ++ lines_text (tlv_lines (managed_of m.now) (Error error id))) }
+    ensures { OnOk result
+        (out.new ≡ out.old ++ lines_text (tlv_lines (managed_of m.now) (Error error id))) }
 {
     add_origin(alloc, m, out)?;
     out.append(b" ERROR ")?;
@@ -137,7 +140,9 @@ fn add_values(
     out: &mut Octets,
 ) -> Result<(), NoMemory>
     requires { IsTrue (is_known (id_numbered id) octets.now) }
-    ensures { OnOk result (out.new ≡ out.old ++ lines_text (tlv_lines (managed_of m.now) (Management id octets.now))) }
+    ensures { OnOk result
+        (out.new
+        ≡ out.old ++ lines_text (tlv_lines (managed_of m.now) (Management id octets.now))) }
 {
     add_title(alloc, m, id, out)?;
     add_known(alloc, numbered(id), octets, out)
@@ -146,7 +151,8 @@ fn add_values(
 // The lines of a message.
 fn message_text(alloc: Global, m: &Lent) -> Result<Octets, NoMemory>
     requires { IsTrue (can_show m.now.action (tlv_of m.now.tlv)) }
-    ensures { IfOk result (λ text. text ≡ lines_text (tlv_lines (managed_of m.now) (tlv_of m.now.tlv))) }
+    ensures { IfOk result
+        (λ text. text ≡ lines_text (tlv_lines (managed_of m.now) (tlv_of m.now.tlv))) }
 {
     let mut text = Octets::new(alloc);
     match m.tlv {
@@ -157,7 +163,7 @@ fn message_text(alloc: Global, m: &Lent) -> Result<Octets, NoMemory>
 }
 
 // The lines of octets.
-#[tactic(auto, unfolding(ptp_profile::specs::Queries::shows, ptp_profile::specs::Queries::printed_lines))]
+#[tactic(auto, unfolding(ptp_management::specs::ManagementQueries::shows, ptp_management::specs::ManagementQueries::printed_lines))]
 fn text_of(alloc: Global, octets: &[u8]) -> Result<Octets, NoMemory>
     requires { IsTrue (shows octets.now) }
     ensures { IfOk result (λ text. text ≡ lines_text (printed_lines octets.now)) }

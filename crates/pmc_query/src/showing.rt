@@ -2,12 +2,12 @@
 
 ghost use Rattle.std.specs.Prelude.{◌≡◌, slice_index};
 ghost use Rattle.std.specs.Option.{option_map};
-ghost use Rattle.ptp_profile.specs.Management.{managed_read};
-ghost use Rattle.ptp_profile.specs.Queries.{can_show, has_state, is_known, shows};
-ghost use Rattle.ptp_profile.specs.Fields.{id_numbered};
-ghost use Rattle.ptp_tlv.specs.Lending.{managed_of, tlv_of};
+ghost use Rattle.ptp_management.specs.ManagementMessages.{managed_read};
+ghost use Rattle.ptp_management.specs.ManagementQueries.{can_show, has_state, is_known, shows};
+ghost use Rattle.ptp_management.specs.ManagementFields.{id_numbered};
+ghost use Rattle.ptp_tlv.specs.LentMessages.{managed_of, tlv_of};
 
-use ptp_profile::management::{Action, ManagementId};
+use ptp_management::{Action, ManagementId};
 use ptp_tlv::{Lent, LentTlv, lend, numbered, width_of};
 
 // Where portState stands in the data of PORT_DATA_SET (IEEE 1588-2019, 15.5.3.7.1).
@@ -71,7 +71,7 @@ pub fn lend_itself(octets: &[u8]) -> Option<Lent<'_>>
 /// domain of their own octet 4, and an error of the action RESPONSE or ACKNOWLEDGE, or a RESPONSE of
 /// a known id with as many octets as that has, for PORT_DATA_SET with a portState from 1 to 9. Every
 /// answer of `answer` is so. Does not allocate.
-#[tactic(auto, unfolding(ptp_profile::specs::Queries::shows))]
+#[tactic(auto, unfolding(ptp_management::specs::ManagementQueries::shows))]
 pub fn shows(octets: &[u8]) -> bool
     ensures { result ≡ shows octets.now }
 {

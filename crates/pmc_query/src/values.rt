@@ -2,14 +2,14 @@
 
 ghost use Rattle.std.specs.Prelude.{◌≡◌, ◌≤◌, ◌++◌, length, IfOk, OnOk};
 ghost use Rattle.byteorder.specs.Endian.{big_bytes};
-ghost use Rattle.ptp_profile.specs.Fields.{fields_octets};
-ghost use Rattle.ptp_profile.specs.Machine.{state_number};
-ghost use Rattle.ptp_profile.specs.Queries.{clock_values, port_value, port_values};
-ghost use Rattle.pmc_query.specs.Sets.{answering, answering_port};
+ghost use Rattle.ptp_management.specs.ManagementFields.{fields_octets};
+ghost use Rattle.ptp_profile.specs.Port.PortStates.{state_number};
+ghost use Rattle.ptp_management.specs.ManagementQueries.{clock_values, port_value, port_values};
+ghost use Rattle.pmc_query.specs.AnsweredSets.{answering, answering_port};
 
 use data_sets::{DataSets, PortSet};
 use ptp_base::{NoMemory, Octets, PortId, PortState};
-use ptp_profile::management::{Field, ManagementId};
+use ptp_management::{Field, ManagementId};
 use ptp_tlv::shape_of;
 use std::alloc::Global;
 
@@ -38,7 +38,8 @@ fn state_number(state: PortState) -> u128
 }
 
 fn default_values(alloc: Global, d: &DataSets) -> Result<Vec<u128>, NoMemory>
-    ensures { IfOk result (λ values. values.items ≡ clock_values (answering d.now) ManagementId.DefaultDataSet) }
+    ensures { IfOk result
+        (λ values. values.items ≡ clock_values (answering d.now) ManagementId.DefaultDataSet) }
 {
     let quality = &d.own.quality;
     Ok(vec![in alloc;
@@ -57,7 +58,8 @@ fn default_values(alloc: Global, d: &DataSets) -> Result<Vec<u128>, NoMemory>
 }
 
 fn current_values(alloc: Global, d: &DataSets) -> Result<Vec<u128>, NoMemory>
-    ensures { IfOk result (λ values. values.items ≡ clock_values (answering d.now) ManagementId.CurrentDataSet) }
+    ensures { IfOk result
+        (λ values. values.items ≡ clock_values (answering d.now) ManagementId.CurrentDataSet) }
 {
     Ok(vec![in alloc;
         d.steps as u128,
@@ -67,7 +69,8 @@ fn current_values(alloc: Global, d: &DataSets) -> Result<Vec<u128>, NoMemory>
 }
 
 fn parent_values(alloc: Global, d: &DataSets) -> Result<Vec<u128>, NoMemory>
-    ensures { IfOk result (λ values. values.items ≡ clock_values (answering d.now) ManagementId.ParentDataSet) }
+    ensures { IfOk result
+        (λ values. values.items ≡ clock_values (answering d.now) ManagementId.ParentDataSet) }
 {
     let quality = &d.gm_quality;
     Ok(vec![in alloc;
@@ -86,7 +89,9 @@ fn parent_values(alloc: Global, d: &DataSets) -> Result<Vec<u128>, NoMemory>
 }
 
 fn time_values(alloc: Global, d: &DataSets) -> Result<Vec<u128>, NoMemory>
-    ensures { IfOk result (λ values. values.items ≡ clock_values (answering d.now) ManagementId.TimePropertiesDataSet) }
+    ensures { IfOk result
+        (λ values.
+        values.items ≡ clock_values (answering d.now) ManagementId.TimePropertiesDataSet) }
 {
     Ok(vec![in alloc;
         d.time.utc_offset.cast_unsigned() as u128,

@@ -1,7 +1,8 @@
--- Numbers within a magnitude, division that rounds towards minus infinity, times in nanoseconds, and intervals.
+-- Numbers within a magnitude, division that rounds towards minus infinity, times in nanoseconds,
+-- and intervals.
 use Rattle.std.specs.Prelude.{ℕ, ℤ, pos, negsuc, neg_ℤ, ◌+◌, ◌*◌, ◌/◌, ◌^◌, ◌≤ℤ◌, int_lt, if◌then◌else◌}
 use Rattle.std.specs.Int.{int_div_euclid}
-use Rattle.ptp_base.specs.declared.number.TheConstants.{TIME_MAX}
+use Rattle.ptp_base.specs.declared.time.TheConstants.{TIME_MAX}
 
 -- a number is of at most this magnitude
 abbrev pub IsWithin : ℤ → ℤ → Type 0
@@ -13,7 +14,11 @@ floor_of a b = int_div_euclid a b
 
 -- a number of nanoseconds, held within one nanosecond less than 2^33 seconds on both sides
 abbrev pub held_ns : ℤ → ℤ
-held_ns z = if int_lt TIME_MAX z then TIME_MAX else (if int_lt z (neg_ℤ TIME_MAX) then neg_ℤ TIME_MAX else z)
+held_ns z =
+    if int_lt TIME_MAX z then
+    TIME_MAX
+    else
+    (if int_lt z (neg_ℤ TIME_MAX) then neg_ℤ TIME_MAX else z)
 
 -- the floor in nanoseconds
 abbrev pub ns_of : ℤ → ℤ

@@ -7,6 +7,8 @@ pub record Reserved (T : Type 0) : Type 0 where
   pub items : List T
   pub spare : ℕ
 
+-- how a list with its places is coded
 abbrev pub reserved_code : {T : Type 0} → Coded T → Coded (Reserved T)
 reserved_code {T} code =
-    code_by (List T × ℕ) (coded× (coded_list code) coded_ℕ) (λ r. (r.items, r.spare)) (λ p. record { items = p.0; spare = p.1 }) (λ _. refl)
+    code_by (List T × ℕ) (coded× (coded_list code) coded_ℕ) (λ r. (r.items, r.spare))
+    (λ p. record { items = p.0; spare = p.1 }) (λ _. refl)

@@ -1,5 +1,4 @@
-ghost use Rattle.std.specs.Prelude.{◌≡◌, ℕ, List, [], ◌∷◌, ◌++◌, ◌<◌, OnOk, OnErr, IfOk, IsTrue, length, slice_get, slice_set};
-ghost use Rattle.std.specs.Option.{option_copied};
+ghost use Rattle.std.specs.Prelude.{◌≡◌, List, [], ◌∷◌, ◌++◌, ◌<◌, OnOk, OnErr, length, slice_set};
 
 use crate::octets::NoMemory;
 use std::alloc::Global;
@@ -32,14 +31,14 @@ impl<T> Items<T> {
         }
     }
 
-    /// The list of the elements of a vector, which takes no memory.
+    /// The list of the elements of a vector. Does not allocate.
     pub fn from_vec(items: Vec<T>) -> Items<T>
         ensures { result ≡ items.items }
     {
         Items { items }
     }
 
-    /// The vector of the elements, which takes no memory.
+    /// The vector of the elements. Does not allocate.
     pub fn into_vec(self) -> Vec<T>
         ensures { result.items ≡ self }
     {

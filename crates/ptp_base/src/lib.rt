@@ -2,31 +2,33 @@
 #![tactic(auto)]
 
 mod announcement;
-mod decision;
-mod head;
+mod code;
+mod header;
 mod identity;
 mod items;
 mod limits;
-mod number;
 mod octets;
-mod port;
+mod port_conf;
+mod port_state;
 mod room;
+mod time;
 mod triple;
 
 pub use announcement::{Announcement, Quality, TimeProps};
-pub use decision::Code;
-pub use head::{Head, eight, head_put, port_put, two};
+pub use code::Code;
+pub use header::{Head, eight, head_put, port_put, two};
 pub use identity::{ClockId, PortId};
 pub use items::Items;
 pub use limits::{
-    CLOCKS_MAX, CONTROLLER_PORTS, DELAYS_MAX, ENTRIES_MAX, FOLLOWER_BASE, FRAME_MAX,
-    GENERATION_MAX, NOTICES_MAX, ORDERS_MAX, PORTS_MAX, QUERY_MAX, ROWS_MAX, SENDERS_MAX, SENT_MAX,
-    STEPS_END, TEXT_MAX,
+    CLOCKS_MAX, CONTROLLER_PORTS, DELAYS_MAX, ENTRIES_MAX, FOLLOWER_BASE,
+    FOREIGN_MASTER_TIME_WINDOW, FRAME_MAX, GENERATION_MAX, NOTICES_MAX, ORDERS_MAX, PORTS_MAX,
+    QUERY_MAX, ROWS_MAX, SENDERS_MAX, SENT_MAX, STEPS_END, TEXT_MAX,
 };
-pub use number::{FREQ_MAX, Scaled, TICK_MAX, TIME_MAX, floor_div, interval, to_ns};
 pub use octets::{NoMemory, Octets};
-pub use port::{PortConf, PortState};
+pub use port_conf::PortConf;
+pub use port_state::PortState;
 pub use room::Room;
+pub use time::{FREQ_MAX, Scaled, TICK_MAX, TIME_MAX, floor_div, interval, time_between, to_ns};
 pub use triple::Triple;
 
 #[cfg(test)]

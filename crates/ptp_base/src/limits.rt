@@ -4,8 +4,13 @@ pub const PORTS_MAX: usize = 32;
 /// The most clocks of a scenario.
 pub const CLOCKS_MAX: usize = 16;
 
-/// The most senders of a port whose Announces count at a time.
+/// The most senders of a port whose Announces count at a time: the entries of foreignMasterDS, of
+/// which IEEE 1588-2019, 9.3.2.4, asks for five at least.
 pub const SENDERS_MAX: usize = 16;
+
+/// How long an Announce counts for qualification, in announce intervals of the port that hears it
+/// (IEEE 1588-2019, 9.3.2.4): two in the window qualify a sender, so that it may lose some of them.
+pub const FOREIGN_MASTER_TIME_WINDOW: u64 = 4;
 
 /// stepsRemoved from which on an Announce is never qualified (IEEE 1588-2019, 9.3.2.5).
 pub const STEPS_END: u16 = 255;

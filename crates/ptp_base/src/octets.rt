@@ -1,4 +1,4 @@
-ghost use Rattle.std.specs.Prelude.{◌≡◌, ℕ, List, [], ◌∷◌, ◌++◌, OnOk, OnErr, IfOk};
+ghost use Rattle.std.specs.Prelude.{◌≡◌, ℕ, List, [], ◌++◌, OnOk, OnErr, IfOk};
 
 use std::alloc::{AllocError, AllocFailed, Global};
 use std::marker::Model;
@@ -41,14 +41,14 @@ impl Octets {
         }
     }
 
-    /// The list of the octets of a vector, which takes no memory.
+    /// The list of the octets of a vector. Does not allocate.
     pub fn from_vec(bytes: Vec<u8>) -> Octets
         ensures { result ≡ bytes.items }
     {
         Octets { bytes }
     }
 
-    /// The vector of the octets, which takes no memory.
+    /// The vector of the octets. Does not allocate.
     pub fn into_vec(self) -> Vec<u8>
         ensures { result.items ≡ self }
     {

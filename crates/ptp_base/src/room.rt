@@ -1,4 +1,4 @@
-ghost use Rattle.std.specs.Prelude.{◌≡◌, ℕ, ◌+◌, ◌-◌, ◌<◌, ◌≤◌, List, [], ◌∷◌, ◌++◌, length, IfOk, OnErr, vec_len, vec_capacity, slice_set};
+ghost use Rattle.std.specs.Prelude.{◌≡◌, ◌+◌, ◌-◌, ◌<◌, ◌≤◌, [], ◌∷◌, ◌++◌, length, IfOk, vec_len, vec_capacity, slice_set};
 ghost use Rattle.ptp_base.specs.Room.{Reserved};
 
 use crate::items::Items;
@@ -41,7 +41,8 @@ impl<T: Drop> Room<T> {
     /// Adds an element at the end, in a reserved place.
     pub fn push(&mut self, item: T)
         requires { 0 < self.old.spare }
-        ensures { self.new ≡ record { items = self.old.items ++ item ∷ []; spare = self.old.spare - 1 } }
+        ensures { self.new
+            ≡ record { items = self.old.items ++ item ∷ []; spare = self.old.spare - 1 } }
     {
         self.items.push_reserved(item);
         self.spare -= 1;
@@ -72,7 +73,7 @@ impl<T: Drop> Room<T> {
         self.items.as_slice()
     }
 
-    /// The list alone, which takes no memory.
+    /// The list alone. Does not allocate.
     pub fn done(self) -> Items<T>
         ensures { result ≡ self.items }
     {
@@ -85,7 +86,11 @@ impl Room<u8> {
     /// Adds octets at the end, in reserved places.
     pub fn append(&mut self, piece: &[u8])
         requires { length piece.now ≤ self.old.spare }
-        ensures { self.new ≡ record { items = self.old.items ++ piece.now; spare = self.old.spare - length piece.now } }
+        ensures { self.new
+            ≡ record {
+              items = self.old.items ++ piece.now;
+              spare = self.old.spare - length piece.now;
+            } }
     {
         for octet in piece {
             self.push(*octet);

@@ -32,6 +32,18 @@ fn times_are_held(rt: HostRuntime) {
 }
 
 #[test]
+fn times_between_are_exact(rt: HostRuntime) {
+    for (from, to, between) in [
+        (3, 5, 131_072),
+        (5, 3, -131_072),
+        (i64::MIN, i64::MAX, 1_208_925_819_614_629_174_640_640),
+    ] {
+        let between: Scaled = between;
+        assert_eq!(rt; time_between(from, to), between, "{from} to {to}");
+    }
+}
+
+#[test]
 fn intervals_double(rt: HostRuntime) {
     for (log, ns) in [
         (-7, 7_812_500),

@@ -2,13 +2,13 @@
 //! data types that these speak of.
 #![tactic(auto)]
 
-mod best_master;
-mod foreign;
-pub mod management;
-mod management_laws;
+mod best_laws;
+pub mod big_endian;
+mod comparison;
+mod foreign_master;
 mod message;
-pub mod numbers;
-mod port;
+mod port_best;
+mod port_event;
 mod role_laws;
 mod roles;
 mod seats;
@@ -16,17 +16,15 @@ mod timing;
 mod timing_laws;
 mod wire_laws;
 
-pub use best_master::{
+pub use best_laws::{
     announces_heard, best_wins, class_decides, coherent_sets, masters_compared, one_follows,
     pass_in_order, paths_compared, ports_decided, qualified_set, two_qualify,
 };
-pub use foreign::{Heard, KeptAnnounce, Order, PortBest};
-pub use management_laws::{
-    holds_management_numbers, managed_is_what_is_read, one_management_spelling,
-    tests_tell_management,
-};
+pub use comparison::Order;
+pub use foreign_master::{Heard, KeptAnnounce};
 pub use message::{Body, Message, Reject, Said};
-pub use port::{Fate, PortEvent, Timer};
+pub use port_best::PortBest;
+pub use port_event::{Fate, PortEvent, Timer};
 pub use role_laws::{
     a_change_bears_the_stamp_in_force, a_changed_clock_is_taken_and_given,
     a_generation_has_few_orders, a_lawful_log_has_the_last_stamp, a_new_parent_is_a_new_edge,
@@ -47,5 +45,5 @@ pub use timing_laws::{
 };
 pub use wire_laws::{
     decoded_is_what_is_read, examples_are_dropped, examples_are_read, examples_are_written,
-    free_octets, holds_numbers, one_spelling,
+    free_octets, holds_numbers, one_spelling, port_numbers_fit,
 };

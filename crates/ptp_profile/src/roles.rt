@@ -1,5 +1,5 @@
 ghost use Rattle.std.specs.Prelude.{◌≡◌};
-ghost use Rattle.ptp_profile.specs.Roles.{HasCtrl, ctrl_of};
+ghost use Rattle.ptp_profile.specs.Roles.Edges.{HasCtrl, ctrl_of};
 
 use ptp_base::PortId;
 
@@ -30,14 +30,18 @@ impl Edge {
 /// 32 for a port, and 128 + s for the clock's own follower that copies clock s.
 #[derive(Clone, Copy, Debug, PartialEq, Eq)]
 pub struct RoleOrder {
+    /// The clock that is ordered, from 0.
     pub clock: u8,
+    /// The generation of the order.
     pub gener: u32,
+    /// The controller from now on.
     pub ctrl: u8,
 }
 
 /// Under which order a clock is held: the generation and the controller of the order.
 #[derive(Clone, Copy, Debug, PartialEq, Eq)]
 pub struct Stamp {
+    /// The generation of the order.
     pub gener: u32,
     /// As the order has it: 0 for nobody.
     pub ctrl: u8,
@@ -46,13 +50,16 @@ pub struct Stamp {
 /// What a follower is told to copy: the generation of the last order of its clock, and the source.
 #[derive(Clone, Copy, Debug, PartialEq, Eq)]
 pub struct Lead {
+    /// The generation of the last order of the follower's clock.
     pub gener: u32,
+    /// The clock that is copied, from 0.
     pub source: u8,
 }
 
 /// What a follower is told of a generation.
 #[derive(Clone, Copy, Debug, PartialEq, Eq)]
 pub struct Notice {
+    /// The generation that the notice tells of.
     pub gener: u32,
     /// The number of the port in SLAVE, or 0.
     pub slave: u16,

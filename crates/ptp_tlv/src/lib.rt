@@ -7,7 +7,7 @@ mod table;
 mod view;
 mod writing;
 
-pub use ptp_profile::management::{
+pub use ptp_management::{
     Action, Field, Form, MANAGEMENT_IDS, Managed, ManagementId, ReadError, Tlv,
 };
 pub use reading::read;

@@ -1,19 +1,18 @@
 //! Octets as a management message.
 
 ghost use Rattle.std.specs.Prelude.{◌≡◌, IfOk, IfErr, Some, None, Err};
-ghost use Rattle.ptp_profile.specs.declared.management.Managed.{Managed};
-ghost use Rattle.ptp_profile.specs.declared.management.ReadError.{ReadError};
-ghost use Rattle.ptp_profile.specs.Management.{ReadsManaged, managed_read};
-ghost use Rattle.ptp_tlv.specs.Lending.{managed_of, tlv_of};
+ghost use Rattle.ptp_management.specs.declared.managed.Managed.{Managed};
+ghost use Rattle.ptp_management.specs.declared.managed.ReadError.{ReadError};
+ghost use Rattle.ptp_management.specs.ManagementMessages.{ReadsManaged, managed_read};
+ghost use Rattle.ptp_tlv.specs.LentMessages.{tlv_of};
 
 use crate::view::{LentTlv, lend};
 use ptp_base::Octets;
-use ptp_profile::managed_is_what_is_read;
-use ptp_profile::management::{Managed, ReadError, Tlv};
+use ptp_management::{Managed, ReadError, Tlv, managed_is_what_is_read};
 use std::alloc::Global;
 
 // The TLV in memory of its own.
-fn owned(alloc: Global, tlv: &LentTlv) -> Result<Tlv, ReadError>
+fn tlv_copy(alloc: Global, tlv: &LentTlv) -> Result<Tlv, ReadError>
     ensures ok { IfOk result (λ own. own ≡ tlv_of tlv.now) }
     ensures err { IfErr result (λ e. e ≡ ReadError.NoMemory) }
 {
@@ -45,13 +44,14 @@ pub fn read(alloc: Global, octets: &[u8], domain: u8) -> Result<Managed, ReadErr
     // Bad is said exactly where no message stands there.
     ensures bad { result ≡ Err ReadError.Bad → managed_read domain octets.now ≡ None }
     ensures only { managed_read domain octets.now ≡ None → result ≡ Err ReadError.Bad }
-    ensures none { result ≡ Err ReadError.Bad → (m : Managed) → ¬ (ReadsManaged octets.now domain m) }
+    ensures none { result ≡ Err ReadError.Bad → (m : Managed) →
+        ¬ (ReadsManaged octets.now domain m) }
 {
     managed_is_what_is_read();
     match lend(octets, domain) {
         None => Err(ReadError::Bad),
         Some(seen) => {
-            let tlv = owned(alloc, &seen.tlv)?;
+            let tlv = tlv_copy(alloc, &seen.tlv)?;
             Ok(Managed {
                 sender: seen.sender,
                 target: seen.target,

@@ -3,10 +3,10 @@
 
 ghost use Rattle.std.specs.Prelude.{◌≡◌, ◌≤◌, IsTrue};
 ghost use Rattle.std.specs.Str.{str_eq_ignore_ascii_case};
-ghost use Rattle.ptp_profile.specs.Fields.{fits_form, id_number, id_name, id_fields, id_numbered, shape_of, width_of};
-ghost use Rattle.ptp_profile.specs.Queries.{id_named};
+ghost use Rattle.ptp_management.specs.ManagementFields.{fits_form, id_number, id_name, id_fields, id_numbered, shape_of, width_of};
+ghost use Rattle.ptp_management.specs.ManagementQueries.{id_named};
 
-use ptp_profile::management::{Field, Form, MANAGEMENT_IDS, ManagementId};
+use ptp_management::{Field, Form, MANAGEMENT_IDS, ManagementId};
 
 /// managementId.
 pub fn number_of(id: ManagementId) -> u16
@@ -112,12 +112,16 @@ pub fn fields_of(id: ManagementId) -> &'static [Field]
 /// How a field stands and is printed: its name, its width in octets, from 1 to 10, and its form.
 #[derive(Clone, Copy)]
 pub struct Shape {
+    /// The name that is printed.
     pub name: &'static str,
+    /// How many octets it has, 1 to 10.
     pub width: usize,
+    /// How its value is printed.
     pub form: Form,
 }
 
-fn standing(name: &'static str, width: usize, form: Form) -> Shape
+/// The shape with this name, width and form.
+fn shape_with(name: &'static str, width: usize, form: Form) -> Shape
     requires fits { IsTrue (fits_form form width) }
     requires some { 1 ≤ width }
     requires most { width ≤ 10 }
@@ -140,42 +144,42 @@ pub fn shape_of(field: Field) -> Shape
     ensures most { result.width ≤ 10 }
 {
     match field {
-        Field::Reserved => standing("", 1, Form::Silent),
-        Field::TwoStepFlag => standing("twoStepFlag", 1, Form::Flag),
-        Field::NumberPorts => standing("numberPorts", 2, Form::Decimal),
-        Field::Priority1 => standing("priority1", 1, Form::Decimal),
-        Field::ClockClass => standing("clockClass", 1, Form::Decimal),
-        Field::ClockAccuracy => standing("clockAccuracy", 1, Form::Hex),
-        Field::OffsetScaledLogVariance => standing("offsetScaledLogVariance", 2, Form::Hex),
-        Field::Priority2 => standing("priority2", 1, Form::Decimal),
-        Field::ClockIdentity => standing("clockIdentity", 8, Form::Clock),
-        Field::DomainNumber => standing("domainNumber", 1, Form::Decimal),
-        Field::StepsRemoved => standing("stepsRemoved", 2, Form::Decimal),
-        Field::OffsetFromMaster => standing("offsetFromMaster", 8, Form::Signed),
-        Field::MeanPathDelay => standing("meanPathDelay", 8, Form::Signed),
-        Field::ParentPortIdentity => standing("parentPortIdentity", 10, Form::Port),
-        Field::ParentStats => standing("", 1, Form::Silent),
-        Field::ObservedVariance => standing("", 2, Form::Silent),
-        Field::ObservedPhaseChangeRate => standing("", 4, Form::Silent),
-        Field::GrandmasterPriority1 => standing("grandmasterPriority1", 1, Form::Decimal),
-        Field::GrandmasterClass => standing("gm.ClockClass", 1, Form::Decimal),
-        Field::GrandmasterAccuracy => standing("gm.ClockAccuracy", 1, Form::Hex),
-        Field::GrandmasterVariance => standing("gm.OffsetScaledLogVariance", 2, Form::Hex),
-        Field::GrandmasterPriority2 => standing("grandmasterPriority2", 1, Form::Decimal),
-        Field::GrandmasterIdentity => standing("grandmasterIdentity", 8, Form::Clock),
-        Field::CurrentUtcOffset => standing("currentUtcOffset", 2, Form::Signed),
-        Field::TimeFlags => standing("timeFlags", 1, Form::Decimal),
-        Field::TimeSource => standing("timeSource", 1, Form::Hex),
-        Field::PortIdentity => standing("portIdentity", 10, Form::Port),
-        Field::PortState => standing("portState", 1, Form::State),
-        Field::LogMinDelayReqInterval => standing("logMinDelayReqInterval", 1, Form::Signed),
-        Field::PeerMeanPathDelay => standing("", 8, Form::Silent),
-        Field::LogAnnounceInterval => standing("logAnnounceInterval", 1, Form::Signed),
-        Field::AnnounceReceiptTimeout => standing("announceReceiptTimeout", 1, Form::Decimal),
-        Field::LogSyncInterval => standing("logSyncInterval", 1, Form::Signed),
-        Field::DelayMechanism => standing("", 1, Form::Silent),
-        Field::LogMinPdelayReqInterval => standing("", 1, Form::Silent),
-        Field::VersionNumber => standing("", 1, Form::Silent),
+        Field::Reserved => shape_with("", 1, Form::Silent),
+        Field::TwoStepFlag => shape_with("twoStepFlag", 1, Form::Flag),
+        Field::NumberPorts => shape_with("numberPorts", 2, Form::Decimal),
+        Field::Priority1 => shape_with("priority1", 1, Form::Decimal),
+        Field::ClockClass => shape_with("clockClass", 1, Form::Decimal),
+        Field::ClockAccuracy => shape_with("clockAccuracy", 1, Form::Hex),
+        Field::OffsetScaledLogVariance => shape_with("offsetScaledLogVariance", 2, Form::Hex),
+        Field::Priority2 => shape_with("priority2", 1, Form::Decimal),
+        Field::ClockIdentity => shape_with("clockIdentity", 8, Form::Clock),
+        Field::DomainNumber => shape_with("domainNumber", 1, Form::Decimal),
+        Field::StepsRemoved => shape_with("stepsRemoved", 2, Form::Decimal),
+        Field::OffsetFromMaster => shape_with("offsetFromMaster", 8, Form::Signed),
+        Field::MeanPathDelay => shape_with("meanPathDelay", 8, Form::Signed),
+        Field::ParentPortIdentity => shape_with("parentPortIdentity", 10, Form::Port),
+        Field::ParentStats => shape_with("", 1, Form::Silent),
+        Field::ObservedVariance => shape_with("", 2, Form::Silent),
+        Field::ObservedPhaseChangeRate => shape_with("", 4, Form::Silent),
+        Field::GrandmasterPriority1 => shape_with("grandmasterPriority1", 1, Form::Decimal),
+        Field::GrandmasterClass => shape_with("gm.ClockClass", 1, Form::Decimal),
+        Field::GrandmasterAccuracy => shape_with("gm.ClockAccuracy", 1, Form::Hex),
+        Field::GrandmasterVariance => shape_with("gm.OffsetScaledLogVariance", 2, Form::Hex),
+        Field::GrandmasterPriority2 => shape_with("grandmasterPriority2", 1, Form::Decimal),
+        Field::GrandmasterIdentity => shape_with("grandmasterIdentity", 8, Form::Clock),
+        Field::CurrentUtcOffset => shape_with("currentUtcOffset", 2, Form::Signed),
+        Field::TimeFlags => shape_with("timeFlags", 1, Form::Decimal),
+        Field::TimeSource => shape_with("timeSource", 1, Form::Hex),
+        Field::PortIdentity => shape_with("portIdentity", 10, Form::Port),
+        Field::PortState => shape_with("portState", 1, Form::State),
+        Field::LogMinDelayReqInterval => shape_with("logMinDelayReqInterval", 1, Form::Signed),
+        Field::PeerMeanPathDelay => shape_with("", 8, Form::Silent),
+        Field::LogAnnounceInterval => shape_with("logAnnounceInterval", 1, Form::Signed),
+        Field::AnnounceReceiptTimeout => shape_with("announceReceiptTimeout", 1, Form::Decimal),
+        Field::LogSyncInterval => shape_with("logSyncInterval", 1, Form::Signed),
+        Field::DelayMechanism => shape_with("", 1, Form::Silent),
+        Field::LogMinPdelayReqInterval => shape_with("", 1, Form::Silent),
+        Field::VersionNumber => shape_with("", 1, Form::Silent),
     }
 }
 
@@ -196,7 +200,7 @@ pub fn width_of(id: ManagementId) -> usize
 }
 
 /// The message of a number, if this clock knows one.
-#[tactic(auto, unfolding(ptp_profile::specs::Fields::id_numbered))]
+#[tactic(auto, unfolding(ptp_management::specs::ManagementFields::id_numbered))]
 pub fn numbered(number: u16) -> Option<ManagementId>
     ensures { result ≡ id_numbered number }
 {
@@ -214,7 +218,7 @@ fn same_word(a: &[u8], b: &[u8]) -> bool
 }
 
 /// The message of a name, in any case of letters, if there is one.
-#[tactic(auto, unfolding(ptp_profile::specs::Queries::id_named))]
+#[tactic(auto, unfolding(ptp_management::specs::ManagementQueries::id_named))]
 pub fn named(word: &[u8]) -> Option<ManagementId>
     ensures { result ≡ id_named word.now }
 {

@@ -2,14 +2,13 @@
 
 ghost use Rattle.std.specs.Prelude.{◌≡◌, ◌≢◌, ◌≤◌, length, slice_index};
 ghost use Rattle.std.specs.Option.{option_map};
-ghost use Rattle.ptp_profile.specs.Wire.{number_at};
-ghost use Rattle.ptp_profile.specs.Management.{is_managed, managed_at, managed_read, action_numbered, tlv_at, is_tlv, IsManaged};
-ghost use Rattle.ptp_tlv.specs.Lending.{managed_of, tlv_of};
+ghost use Rattle.ptp_profile.specs.Wire.MessageFormat.{number_at};
+ghost use Rattle.ptp_management.specs.ManagementMessages.{is_managed, managed_at, managed_read, action_numbered, tlv_at, is_tlv, IsManaged};
+ghost use Rattle.ptp_tlv.specs.LentMessages.{managed_of, tlv_of};
 
 use ptp_base::PortId;
-use ptp_profile::management::Action;
-use ptp_profile::numbers::{port_at, u16_at};
-use ptp_profile::tests_tell_management;
+use ptp_management::{Action, tests_tell_management};
+use ptp_profile::big_endian::{port_at, u16_at};
 
 // Where the fields stand, counted in octets from the first one (IEEE 1588-2019, 13.3 and 15.4.1).
 const MESSAGE_TYPE: usize = 0;
@@ -73,7 +72,7 @@ fn is_tlv(kind: u16, length: u16) -> bool
 }
 
 // Whether the octets are a management message of the domain.
-#[tactic(auto, unfolding(ptp_profile::specs::Management::is_managed))]
+#[tactic(auto, unfolding(ptp_management::specs::ManagementMessages::is_managed))]
 fn is_managed(octets: &[u8], domain: u8) -> bool
     ensures { result ≡ is_managed domain octets.now }
 {

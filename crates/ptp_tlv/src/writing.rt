@@ -1,12 +1,11 @@
 //! A management message as octets.
 
-ghost use Rattle.std.specs.Prelude.{◌≡◌, ◌≤◌, ◌+◌, ◌++◌, ◌∷◌, [], ℕ, List, length, OnOk, OnErr, Some};
-ghost use Rattle.ptp_base.specs.Header.{header_octets, port_octets};
-ghost use Rattle.ptp_profile.specs.Management.{action_number, managed_head, managed_octets, managed_read, purpose_octets, tlv_octets, tlv_length, IsShort};
+ghost use Rattle.std.specs.Prelude.{◌≡◌, ◌≤◌, ◌+◌, ◌++◌, ℕ, List, length, OnOk, OnErr, Some};
+ghost use Rattle.ptp_base.specs.Header.{header_octets};
+ghost use Rattle.ptp_management.specs.ManagementMessages.{action_number, managed_head, managed_octets, managed_read, purpose_octets, tlv_octets, tlv_length, IsShort};
 
 use ptp_base::{Head, NoMemory, Octets, eight, head_put, two};
-use ptp_profile::holds_management_numbers;
-use ptp_profile::management::{Action, Managed, Tlv};
+use ptp_management::{Action, Managed, Tlv, holds_management_numbers};
 use std::alloc::Global;
 
 // actionField (IEEE 1588-2019, 15.4.1.6).
@@ -108,7 +107,9 @@ pub fn write(alloc: Global, m: &Managed, domain: u8, out: &mut Octets) -> Result
     ensures err { OnErr result (out.new ≡ out.old) }
 
     // What is appended is read again, whatever stands behind it.
-    ensures again { OnOk result ((rest : List ℕ) → managed_read domain (managed_octets domain m.now ++ rest) ≡ Some m.now) }
+    ensures again { OnOk result
+        ((rest : List ℕ) →
+        managed_read domain (managed_octets domain m.now ++ rest) ≡ Some m.now) }
 {
     holds_management_numbers(m);
     let mut message = Octets::new(alloc);

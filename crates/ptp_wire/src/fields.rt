@@ -2,7 +2,7 @@
 //! first one of the message. Numbers stand with the high octet first.
 
 ghost use Rattle.std.specs.Prelude.{◌≡◌};
-ghost use Rattle.ptp_profile.specs.Wire.{length_of};
+ghost use Rattle.ptp_profile.specs.Wire.MessageFormat.{length_of};
 
 // The header (13.3), which `ptp_base` writes.
 

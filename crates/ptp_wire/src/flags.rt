@@ -1,6 +1,6 @@
 //! The flag field of the header (IEEE 1588-2019, 13.3.2.8), octet 6 as the high one.
 
-ghost use Rattle.std.specs.Prelude.{⊤, ◌≡◌, ◌==◌, [], ◌∷◌, codes, bit_and};
+ghost use Rattle.std.specs.Prelude.{⊤, ◌≡◌, [], ◌∷◌, codes, bit_and};
 
 use bitflags::{Flag, Flags, bitflag_items};
 

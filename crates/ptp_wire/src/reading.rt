@@ -1,15 +1,15 @@
 //! Octets as a message.
 
-ghost use Rattle.std.specs.Prelude.{◌≡◌, ◌≢◌, ◌≤◌, ◌<◌, ◌^◌, ◌+◌, ◌≤ℤ◌, pos, length, IfOk, IfErr, IfNone, Some, Ok, Err, bit_and};
+ghost use Rattle.std.specs.Prelude.{◌≡◌, ◌≢◌, ◌≤◌, ◌<◌, ◌^◌, ◌+◌, ◌≤ℤ◌, pos, length, IfOk, IfErr, IfNone, Some, Ok, Err};
 ghost use Rattle.ptp_profile.specs.declared.message.Message.{Message};
 ghost use Rattle.ptp_profile.specs.declared.message.Reject.{Reject};
-ghost use Rattle.ptp_base.specs.declared.number.TheConstants.{TIME_MAX};
-ghost use Rattle.ptp_profile.specs.Wire.{number_at, port_at, time_at, said_at, kind_at, length_of, body_at, message_at, first_fault, decoded, time_in, IsFaultless, IsSpelled, Reads};
+ghost use Rattle.ptp_base.specs.declared.time.TheConstants.{TIME_MAX};
+ghost use Rattle.ptp_profile.specs.Wire.MessageFormat.{number_at, port_at, time_at, said_at, length_of, body_at, message_at, first_fault, decode_result, time_in, IsFaultless, IsSpelled, Reads};
 
 use crate::fields::*;
 use crate::flags::known_flags;
 use ptp_base::{ClockId, Quality};
-use ptp_profile::numbers::{port_at, u16_at, u32_at, u48_at, u64_at};
+use ptp_profile::big_endian::{port_at, u16_at, u32_at, u48_at, u64_at};
 use ptp_profile::{Body, Message, Reject, Said};
 
 // The timestamp in ns (5.3.3).
@@ -129,7 +129,7 @@ fn message_at(octets: &[u8], domain: u8) -> Message
 /// messageTypeSpecific, controlField, the flags that the profile does not know, and all octets
 /// behind the type's length are free.
 pub fn decode(octets: &[u8], domain: u8) -> Result<Message, Reject>
-    ensures exact { result ≡ decoded domain octets.now }
+    ensures exact { result ≡ decode_result domain octets.now }
 
     // What is read stands there, and what stands there is read.
     ensures ok { IfOk result (λ m. Reads octets.now domain m) }
@@ -137,7 +137,8 @@ pub fn decode(octets: &[u8], domain: u8) -> Result<Message, Reject>
 
     // The first fault is given, and no other.
     ensures err { IfErr result (λ fault. first_fault domain octets.now ≡ Some fault) }
-    ensures first { (fault : Reject) → first_fault domain octets.now ≡ Some fault → result ≡ Err fault }
+    ensures first { (fault : Reject) → first_fault domain octets.now ≡ Some fault →
+        result ≡ Err fault }
 
     // Its time is from 0 to `TIME_MAX`, and it has no flag beyond the profile's.
     ensures spelled { IfOk result (λ m. IsSpelled m) }

@@ -2,8 +2,8 @@
 
 ghost use Rattle.std.specs.Prelude.{◌≡◌, ◌≤◌, ◌+◌, ◌-◌, ◌≤ℤ◌, pos, ◌++◌, length, drop, List, ℕ, OnOk, OnErr, unsigned_abs};
 ghost use Rattle.ptp_base.specs.declared.limits.TheConstants.{SENT_MAX};
-ghost use Rattle.ptp_base.specs.declared.number.TheConstants.{TIME_MAX};
-ghost use Rattle.ptp_profile.specs.Wire.{time_octets, said_octets, body_octets, time_in, head_of, IsSpelled, Reads, written};
+ghost use Rattle.ptp_base.specs.declared.time.TheConstants.{TIME_MAX};
+ghost use Rattle.ptp_profile.specs.Wire.MessageFormat.{time_octets, said_octets, body_octets, time_in, head_of, IsSpelled, Reads, message_octets};
 
 use crate::fields::*;
 use byteorder::{BigEndian, ByteOrder};
@@ -131,8 +131,8 @@ fn head_of(m: &Message) -> Head
 fn frame_put(m: &Message, out: &mut [u8]) -> usize
     requires long { SENT_MAX ≤ length out.old }
     requires fits { IsSpelled m.now }
-    ensures octets { out.new ≡ written m.now ++ drop result out.old }
-    ensures length { result ≡ length (written m.now) }
+    ensures octets { out.new ≡ message_octets m.now ++ drop result out.old }
+    ensures length { result ≡ length (message_octets m.now) }
     ensures short { result ≤ SENT_MAX }
 {
     head_put(&head_of(m), out);
@@ -142,7 +142,7 @@ fn frame_put(m: &Message, out: &mut [u8]) -> usize
 /// How many octets the one spelling of the message has: 44, 54 or 64 (IEEE 1588-2019, 13.5 to
 /// 13.8). Does not allocate.
 pub fn written_length(m: &Message) -> usize
-    ensures length { result ≡ length (written m.now) }
+    ensures length { result ≡ length (message_octets m.now) }
     ensures short { result ≤ SENT_MAX }
 {
     head_of(m).length as usize
@@ -153,11 +153,12 @@ pub fn written_length(m: &Message) -> usize
 pub fn encode(m: &Message, out: &mut Octets) -> Result<(), NoMemory>
     // Its time is from 0 to `TIME_MAX`, and it has no flag beyond the profile's.
     requires { IsSpelled m.now }
-    ensures ok { OnOk result (out.new ≡ out.old ++ written m.now) }
+    ensures ok { OnOk result (out.new ≡ out.old ++ message_octets m.now) }
     ensures err { OnErr result (out.new ≡ out.old) }
 
     // What is appended is read again, whatever stands behind it.
-    ensures again { OnOk result ((rest : List ℕ) → Reads (written m.now ++ rest) m.now.domain m.now) }
+    ensures again { OnOk result
+        ((rest : List ℕ) → Reads (message_octets m.now ++ rest) m.now.domain m.now) }
 {
     holds_numbers(m);
     let mut frame = [0; SENT_MAX];
@@ -169,8 +170,12 @@ pub fn encode(m: &Message, out: &mut Octets) -> Result<(), NoMemory>
 /// places, so it cannot fail. Does not allocate.
 pub fn encode_reserved(m: &Message, out: &mut Room<u8>)
     requires fits { IsSpelled m.now }
-    requires room { length (written m.now) ≤ out.old.spare }
-    ensures { out.new ≡ record { items = out.old.items ++ written m.now; spare = out.old.spare - length (written m.now) } }
+    requires room { length (message_octets m.now) ≤ out.old.spare }
+    ensures { out.new
+        ≡ record {
+          items = out.old.items ++ message_octets m.now;
+          spare = out.old.spare - length (message_octets m.now);
+        } }
 {
     let mut frame = [0; SENT_MAX];
     let length = frame_put(m, &mut frame);

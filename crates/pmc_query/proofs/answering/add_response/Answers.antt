@@ -1,8 +1,8 @@
 use Rattle.std.proofs.Common.{◌≡◌, ℕ, List, [], ◌∷◌, ◌++◌, ap, sym, subst, ◌∙◌, true, rules}
 use Rattle.std.specs.Prelude.{OnOk, ◌==◌, ◌||◌}
-use Rattle.ptp_profile.specs.Queries.{all_ports}
-use Rattle.pmc_query.specs.Sets.{answering, ports_answers}
-use Rattle.pmc_query.proofs.Answers.{port_asked}
+use Rattle.ptp_management.specs.ManagementQueries.{all_ports}
+use Rattle.pmc_query.specs.AnsweredSets.{answering, ports_answers}
+use Rattle.pmc_query.proofs.lemmas.AnswerLemmas.{port_asked}
 use Rattle.pmc_query.proofs.answering.add_response.Goals as goal
 
 pub returns-clause-made : goal.returns-clause-made

@@ -1,9 +1,9 @@
 use Rattle.std.proofs.Common.{◌≡◌, ℕ, List, subst, ◌∙◌}
 use Rattle.std.specs.Prelude.{IfOk}
-use Rattle.ptp_profile.specs.declared.management.ManagementId.TheVariants.{PortDataSet}
-use Rattle.ptp_profile.specs.Management.{managed_octets}
-use Rattle.ptp_profile.specs.Queries.{port_values, response_to}
-use Rattle.pmc_query.specs.Sets.{answering, answering_port}
+use Rattle.ptp_management.specs.declared.table.ManagementId.TheVariants.{PortDataSet}
+use Rattle.ptp_management.specs.ManagementMessages.{managed_octets}
+use Rattle.ptp_management.specs.ManagementQueries.{port_values, response_to}
+use Rattle.pmc_query.specs.AnsweredSets.{answering, answering_port}
 use Rattle.pmc_query.proofs.answering.port_response.Goals as goal
 
 pub returns-clause-octets : goal.returns-clause-octets

@@ -1,5 +1,5 @@
-use Rattle.pmc_query.specs.Sets.{answering}
-use Rattle.pmc_query.proofs.Answers.{port_answered}
+use Rattle.pmc_query.specs.AnsweredSets.{answering}
+use Rattle.pmc_query.proofs.lemmas.AnswerLemmas.{port_answered}
 use Rattle.pmc_query.proofs.answering.port_responses.Goals as goal
 
 pub loop-port-preserved : goal.loop-port-preserved

@@ -1,8 +1,8 @@
 use Rattle.std.proofs.Common.{◌≡◌, ◌++◌, drop}
 use Rattle.std.specs.Prelude.{IsTrue}
 use Rattle.std.specs.List.{list_all}
-use Rattle.ptp_profile.specs.Queries.{shows}
-use Rattle.pmc_query.specs.Sets.{answering, ports_answers}
+use Rattle.ptp_management.specs.ManagementQueries.{shows}
+use Rattle.pmc_query.specs.AnsweredSets.{answering, ports_answers}
 use Rattle.pmc_query.proofs.answering.port_responses.Given as goal
 
 abbrev pub invariant-loop-port : goal.invariant-loop-port

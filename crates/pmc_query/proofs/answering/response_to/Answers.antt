@@ -1,19 +1,19 @@
 use Rattle.std.proofs.Common.{◌≡◌, List, sym, ap, subst, ◌∙◌}
 use Rattle.std.specs.Prelude.{IsTrue}
-use Rattle.ptp_profile.specs.declared.management.Action.{Action}
-use Rattle.ptp_profile.specs.declared.management.Action.TheVariants.{Response}
-use Rattle.ptp_profile.specs.declared.management.Managed.{Managed}
-use Rattle.ptp_profile.specs.declared.management.Field.{Field}
-use Rattle.ptp_profile.specs.declared.management.Tlv.{Tlv}
-use Rattle.ptp_profile.specs.declared.management.Tlv.TheVariants.{Management}
-use Rattle.ptp_profile.specs.Fields.{fields_octets, id_fields, id_number}
-use Rattle.ptp_profile.specs.Management.{IsShort}
-use Rattle.ptp_profile.specs.Queries.{can_show}
-use Rattle.pmc_query.proofs.Answers.{response_short, response_shows}
+use Rattle.ptp_management.specs.declared.managed.Action.{Action}
+use Rattle.ptp_management.specs.declared.managed.Action.TheVariants.{Response}
+use Rattle.ptp_management.specs.declared.managed.Managed.{Managed}
+use Rattle.ptp_management.specs.declared.table.Field.{Field}
+use Rattle.ptp_management.specs.declared.managed.Tlv.{Tlv}
+use Rattle.ptp_management.specs.declared.managed.Tlv.TheVariants.{Management}
+use Rattle.ptp_management.specs.ManagementFields.{fields_octets, id_fields, id_number}
+use Rattle.ptp_management.specs.ManagementMessages.{IsShort}
+use Rattle.ptp_management.specs.ManagementQueries.{can_show}
+use Rattle.pmc_query.proofs.lemmas.AnswerLemmas.{response_short, response_shows}
 use Rattle.pmc_query.proofs.answering.response_to.Goals as goal
 
-pub written-requires-clause-short : goal.written-requires-clause-short
-written-requires-clause-short c =
+pub octets_of-requires-clause-short : goal.octets_of-requires-clause-short
+octets_of-requires-clause-short c =
     let octets : c.in_ok-fields_octets.field-0 ≡ fields_octets (id_fields c.args.id) c.args.values.now =
     c.in_ok-fields_octets.ensures ∙ ap (λ (f : List Field). fields_octets f c.args.values.now) c.fields_of.ensures in
     let tlv : c.answer_to-m.result.tlv ≡ Management (id_number c.args.id) (fields_octets (id_fields c.args.id) c.args.values.now) =
@@ -21,8 +21,8 @@ written-requires-clause-short c =
     let P : Tlv → Type 0 = λ t. IsShort t in
     subst P (sym tlv) (response_short c.args.id c.args.values.now c.requires.each)
 
-pub written-requires-clause-shown : goal.written-requires-clause-shown
-written-requires-clause-shown c =
+pub octets_of-requires-clause-shown : goal.octets_of-requires-clause-shown
+octets_of-requires-clause-shown c =
     let octets : c.in_ok-fields_octets.field-0 ≡ fields_octets (id_fields c.args.id) c.args.values.now =
     c.in_ok-fields_octets.ensures ∙ ap (λ (f : List Field). fields_octets f c.args.values.now) c.fields_of.ensures in
     let tlv : c.answer_to-m.result.tlv ≡ Management (id_number c.args.id) (fields_octets (id_fields c.args.id) c.args.values.now) =

@@ -1,4 +1,4 @@
-use Rattle.pmc_query.proofs.Splitting.{asked_from}
+use Rattle.pmc_query.proofs.lemmas.QueryWordLemmas.{asked_from}
 use Rattle.pmc_query.proofs.asking.ask.Goals as goal
 
 pub returns : goal.returns

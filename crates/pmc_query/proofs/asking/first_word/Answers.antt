@@ -1,7 +1,7 @@
 use Rattle.std.proofs.Common.{ℕ, ◌+◌, List, ◌∷◌, take, sym, ap, ◌∙◌}
 use Rattle.std.proofs.lemmas.List.{take_rest}
-use Rattle.ptp_profile.specs.Queries.{words_of}
-use Rattle.pmc_query.proofs.Splitting.{one_word, word_before}
+use Rattle.ptp_management.specs.ManagementQueries.{words_of}
+use Rattle.pmc_query.proofs.lemmas.QueryWordLemmas.{one_word, word_before}
 use Rattle.pmc_query.proofs.asking.first_word.Goals as goal
 
 pub returns-in-None : goal.returns-in-None

@@ -1,9 +1,9 @@
 use Rattle.std.proofs.Common.{ℕ, List, ◌∷◌, Bor, sym, ap, ◌∙◌}
 use Rattle.std.specs.Prelude.{Option}
 use Rattle.std.specs.Option.{option_copied}
-use Rattle.ptp_profile.specs.Queries.{target_asked}
-use Rattle.pmc_query.specs.Words.{words_behind}
-use Rattle.pmc_query.proofs.Splitting.{one_too_many}
+use Rattle.ptp_management.specs.ManagementQueries.{target_asked}
+use Rattle.pmc_query.specs.QueryWords.{words_behind}
+use Rattle.pmc_query.proofs.lemmas.QueryWordLemmas.{one_too_many}
 use Rattle.pmc_query.proofs.asking.last_target.Goals as goal
 
 pub returns-in-Some : goal.returns-in-Some

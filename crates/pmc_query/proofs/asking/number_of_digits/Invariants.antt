@@ -1,5 +1,5 @@
 use Rattle.std.proofs.Common.{◌≡◌, ◌<◌, ◌^◌, take}
-use Rattle.ptp_profile.specs.Queries.{number_of_digits}
+use Rattle.ptp_management.specs.ManagementQueries.{number_of_digits}
 use Rattle.pmc_query.proofs.asking.number_of_digits.Given as goal
 
 abbrev pub invariant-loop-digit : goal.invariant-loop-digit

@@ -1,6 +1,6 @@
 use Rattle.std.proofs.Common.{◌≡◌, ◌++◌, drop, length}
-use Rattle.ptp_profile.specs.Fields.{fields_lines, width_of}
-use Rattle.ptp_profile.specs.Queries.{lines_text}
+use Rattle.ptp_management.specs.ManagementFields.{fields_lines, width_of}
+use Rattle.ptp_management.specs.ManagementQueries.{lines_text}
 use Rattle.pmc_query.proofs.printing.add_fields.Given as goal
 
 abbrev pub invariant-loop-field : goal.invariant-loop-field

@@ -1,9 +1,9 @@
 use Rattle.std.proofs.Common.{◌≡◌, ℕ, List, ◌++◌, codes, ap, subst, ◌∙◌, append_assoc}
 use Rattle.std.specs.Prelude.{OnOk, Option}
 use Rattle.hex.specs.Hex.{encode_lower}
-use Rattle.ptp_profile.specs.declared.management.ManagementId.{ManagementId}
-use Rattle.ptp_profile.specs.Fields.{id_numbered}
-use Rattle.ptp_profile.specs.Queries.{name_text}
+use Rattle.ptp_management.specs.declared.table.ManagementId.{ManagementId}
+use Rattle.ptp_management.specs.ManagementFields.{id_numbered}
+use Rattle.ptp_management.specs.ManagementQueries.{name_text}
 use Rattle.pmc_query.proofs.printing.add_name.Goals as goal
 
 pub returns-in-Some : goal.returns-in-Some

@@ -1,9 +1,9 @@
 use Rattle.std.proofs.Common.{◌≡◌, ℕ, List, ◌++◌, codes, ap, subst, ◌∙◌, rules}
 use Rattle.std.specs.Prelude.{OnOk}
 use Rattle.std.specs.Fmt.{decimal}
-use Rattle.ptp_profile.specs.Naming.{port_text}
-use Rattle.ptp_profile.specs.Queries.{action_text, origin_text}
-use Rattle.pmc_query.proofs.Lines.{five_more}
+use Rattle.ptp_profile.specs.Port.PrintedNames.{port_text}
+use Rattle.ptp_management.specs.ManagementQueries.{action_text, origin_text}
+use Rattle.pmc_query.proofs.lemmas.PrintedLineLemmas.{five_more}
 use Rattle.pmc_query.proofs.printing.add_origin.Goals as goal
 
 pub returns : goal.returns

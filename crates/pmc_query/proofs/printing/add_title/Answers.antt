@@ -1,9 +1,9 @@
 use Rattle.std.proofs.Common.{◌≡◌, ℕ, List, ◌++◌, codes, subst, rules}
 use Rattle.std.specs.Prelude.{OnOk}
-use Rattle.ptp_profile.specs.Fields.{id_numbered}
-use Rattle.ptp_profile.specs.Queries.{name_text, origin_text}
-use Rattle.ptp_tlv.specs.Lending.{managed_of}
-use Rattle.pmc_query.proofs.Lines.{three_pieces}
+use Rattle.ptp_management.specs.ManagementFields.{id_numbered}
+use Rattle.ptp_management.specs.ManagementQueries.{name_text, origin_text}
+use Rattle.ptp_tlv.specs.LentMessages.{managed_of}
+use Rattle.pmc_query.proofs.lemmas.PrintedLineLemmas.{three_pieces}
 use Rattle.pmc_query.proofs.printing.add_title.Goals as goal
 
 pub returns : goal.returns

@@ -1,10 +1,10 @@
 use Rattle.std.proofs.Common.{◌≡◌, ℕ, List, [], ◌∷◌, ◌++◌, subst, rules}
 use Rattle.std.specs.Prelude.{OnOk, Option}
-use Rattle.ptp_profile.specs.declared.management.ManagementId.{ManagementId}
-use Rattle.ptp_profile.specs.Fields.{id_numbered}
-use Rattle.ptp_profile.specs.Queries.{lines_text, title_line, values_lines}
-use Rattle.ptp_tlv.specs.Lending.{managed_of}
-use Rattle.pmc_query.proofs.Lines.{more_lines}
+use Rattle.ptp_management.specs.declared.table.ManagementId.{ManagementId}
+use Rattle.ptp_management.specs.ManagementFields.{id_numbered}
+use Rattle.ptp_management.specs.ManagementQueries.{lines_text, title_line, values_lines}
+use Rattle.ptp_tlv.specs.LentMessages.{managed_of}
+use Rattle.pmc_query.proofs.lemmas.PrintedLineLemmas.{more_lines}
 use Rattle.pmc_query.proofs.printing.add_values.Goals as goal
 
 pub returns : goal.returns

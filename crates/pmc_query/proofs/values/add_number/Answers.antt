@@ -1,4 +1,4 @@
-use Rattle.pmc_query.proofs.Answers.{last_bytes}
+use Rattle.pmc_query.proofs.lemmas.AnswerLemmas.{last_bytes}
 use Rattle.pmc_query.proofs.values.add_number.Goals as goal
 
 pub returns : goal.returns

@@ -1,5 +1,5 @@
 use Rattle.std.proofs.Common.{◌≡◌, ◌++◌, drop}
-use Rattle.ptp_profile.specs.Fields.{fields_octets}
+use Rattle.ptp_management.specs.ManagementFields.{fields_octets}
 use Rattle.pmc_query.proofs.values.fields_octets.Given as goal
 
 abbrev pub invariant-loop-i : goal.invariant-loop-i

@@ -1,4 +1,4 @@
-use Rattle.ptp_profile.proofs.GenerationLemmas.{length-orders}
+use Rattle.ptp_profile.proofs.lemmas.GenerationLemmas.{length-orders}
 use Rattle.ptp_profile.proofs.role_laws.a_generation_has_few_orders.Goals as goal
 
 pub returns : goal.returns

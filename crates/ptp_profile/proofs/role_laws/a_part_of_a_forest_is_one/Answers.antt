@@ -1,4 +1,4 @@
-use Rattle.ptp_profile.proofs.ForestLemmas.{IsForest-from_part}
+use Rattle.ptp_profile.proofs.lemmas.ForestLemmas.{IsForest-from_part}
 use Rattle.ptp_profile.proofs.role_laws.a_part_of_a_forest_is_one.Goals as goal
 
 pub returns : goal.returns

@@ -1,4 +1,4 @@
-use Rattle.ptp_profile.proofs.GrantLemmas.{stamp_was_ordered}
+use Rattle.ptp_profile.proofs.lemmas.GrantLemmas.{stamp_was_ordered}
 use Rattle.ptp_profile.proofs.role_laws.a_stamp_was_ordered.Goals as goal
 
 pub returns : goal.returns

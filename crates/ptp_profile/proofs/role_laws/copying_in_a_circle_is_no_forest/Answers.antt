@@ -1,4 +1,4 @@
-use Rattle.ptp_profile.proofs.ForestLemmas.{copies_itself, copy_each_other}
+use Rattle.ptp_profile.proofs.lemmas.ForestLemmas.{copies_itself, copy_each_other}
 use Rattle.ptp_profile.proofs.role_laws.copying_in_a_circle_is_no_forest.Goals as goal
 
 pub returns-clause-itself : goal.returns-clause-itself

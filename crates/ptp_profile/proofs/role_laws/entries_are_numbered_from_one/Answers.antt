@@ -1,4 +1,4 @@
-use Rattle.ptp_profile.proofs.LogLemmas.{entry_at-zero, entry_at-place, entry_at-next, entry_at-kept, log_after-kept}
+use Rattle.ptp_profile.proofs.lemmas.SeatLogLemmas.{entry_at-zero, entry_at-place, entry_at-next, entry_at-kept, log_after-kept}
 use Rattle.ptp_profile.proofs.role_laws.entries_are_numbered_from_one.Goals as goal
 
 pub returns-clause-none : goal.returns-clause-none

@@ -1,4 +1,4 @@
-use Rattle.ptp_profile.proofs.LogLemmas.{IsLawful-opened, IsLawful-ordered, IsLawful-elsewhere, IsLawful-changed}
+use Rattle.ptp_profile.proofs.lemmas.SeatLogLemmas.{IsLawful-opened, IsLawful-ordered, IsLawful-elsewhere, IsLawful-changed}
 use Rattle.ptp_profile.proofs.role_laws.lawful_logs_grow.Goals as goal
 
 pub returns-clause-opened : goal.returns-clause-opened

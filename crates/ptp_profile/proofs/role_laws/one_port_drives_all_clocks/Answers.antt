@@ -1,4 +1,4 @@
-use Rattle.ptp_profile.proofs.PortLemmas.{edge_at-port, edge_at-others, edge_at-waiting, edge_at-nobody}
+use Rattle.ptp_profile.proofs.lemmas.PortLemmas.{edge_at-port, edge_at-others, edge_at-waiting, edge_at-nobody}
 use Rattle.ptp_profile.proofs.role_laws.one_port_drives_all_clocks.Goals as goal
 
 pub returns-clause-port : goal.returns-clause-port

@@ -1,4 +1,4 @@
-use Rattle.ptp_profile.proofs.OrderLemmas.{IsForest-orders}
+use Rattle.ptp_profile.proofs.lemmas.OrderLemmas.{IsForest-orders}
 use Rattle.ptp_profile.proofs.role_laws.orders_leave_forests.Goals as goal
 
 pub returns : goal.returns

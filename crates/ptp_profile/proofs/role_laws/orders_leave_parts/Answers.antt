@@ -1,4 +1,4 @@
-use Rattle.ptp_profile.proofs.OrderLemmas.{IsPart-orders}
+use Rattle.ptp_profile.proofs.lemmas.OrderLemmas.{IsPart-orders}
 use Rattle.ptp_profile.proofs.role_laws.orders_leave_parts.Goals as goal
 
 pub returns : goal.returns

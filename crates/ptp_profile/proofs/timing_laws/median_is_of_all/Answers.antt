@@ -1,4 +1,4 @@
-use Rattle.ptp_profile.proofs.MedianLemmas.{IsPermutation-rising, IsSorted-rising}
+use Rattle.ptp_profile.proofs.lemmas.MedianLemmas.{IsPermutation-rising, IsSorted-rising}
 use Rattle.ptp_profile.proofs.timing_laws.median_is_of_all.Goals as goal
 
 pub returns-clause-same : goal.returns-clause-same

@@ -1,4 +1,4 @@
-use Rattle.ptp_profile.proofs.ServoLemmas.{length-steer, All-steer, newest_action-new}
+use Rattle.ptp_profile.proofs.lemmas.ServoLemmas.{length-steer, All-steer, newest_action-new}
 use Rattle.ptp_profile.proofs.timing_laws.steering_is_gentle.Goals as goal
 
 pub returns-clause-each : goal.returns-clause-each

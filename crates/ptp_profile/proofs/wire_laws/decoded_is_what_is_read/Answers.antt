@@ -1,4 +1,4 @@
-use Rattle.ptp_profile.proofs.WireReading.{reads_from, decoded_from}
+use Rattle.ptp_profile.proofs.lemmas.MessageReadingLemmas.{reads_from, decoded_from}
 use Rattle.ptp_profile.proofs.wire_laws.decoded_is_what_is_read.Goals as goal
 
 pub returns : goal.returns

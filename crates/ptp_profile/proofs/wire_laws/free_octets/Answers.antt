@@ -1,4 +1,4 @@
-use Rattle.ptp_profile.proofs.WireFree.{decoded_same}
+use Rattle.ptp_profile.proofs.lemmas.FreeOctetLemmas.{decoded_same}
 use Rattle.ptp_profile.proofs.wire_laws.free_octets.Goals as goal
 
 pub returns : goal.returns

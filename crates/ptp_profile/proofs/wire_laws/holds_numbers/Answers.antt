@@ -1,6 +1,6 @@
 use Rattle.std.proofs.Common.{rules}
-use Rattle.ptp_profile.specs.Spelled.{IsMessage}
-use Rattle.ptp_profile.proofs.WireRoundTrip.{reads_again}
+use Rattle.ptp_profile.specs.Wire.MessageRanges.{IsMessage}
+use Rattle.ptp_profile.proofs.lemmas.MessageRoundTripLemmas.{reads_again}
 use Rattle.ptp_profile.proofs.wire_laws.holds_numbers.Goals as goal
 
 pub returns-clause-again : goal.returns-clause-again

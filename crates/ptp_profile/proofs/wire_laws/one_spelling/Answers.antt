@@ -1,4 +1,4 @@
-use Rattle.ptp_profile.proofs.WireRoundTrip.{reads_again, one_spelling}
+use Rattle.ptp_profile.proofs.lemmas.MessageRoundTripLemmas.{reads_again, one_spelling}
 use Rattle.ptp_profile.proofs.wire_laws.one_spelling.Goals as goal
 
 pub returns-clause-again : goal.returns-clause-again

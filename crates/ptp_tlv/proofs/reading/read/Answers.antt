@@ -1,5 +1,5 @@
 use Rattle.std.proofs.Common.{◌≡◌, sym, rules, Some, None}
-use Rattle.ptp_profile.specs.Management.{managed_read}
+use Rattle.ptp_management.specs.ManagementMessages.{managed_read}
 use Rattle.ptp_tlv.proofs.reading.read.Goals as goal
 
 pub returns-in-None-clause-none : goal.returns-in-None-clause-none

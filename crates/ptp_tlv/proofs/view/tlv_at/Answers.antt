@@ -1,5 +1,5 @@
 use Rattle.std.proofs.Common.{arith}
-use Rattle.ptp_tlv.proofs.Slices.{management_lent}
+use Rattle.ptp_tlv.proofs.lemmas.SliceLemmas.{management_lent}
 use Rattle.ptp_tlv.proofs.view.tlv_at.Goals as goal
 
 pub returns-then-u16_at-eq1 : goal.returns-then-u16_at-eq1

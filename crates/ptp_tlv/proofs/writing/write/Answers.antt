@@ -1,6 +1,6 @@
 use Rattle.std.proofs.Common.{◌≡◌, ℕ, List, ◌++◌, append_assoc, rules}
 use Rattle.ptp_base.specs.Header.{header_octets}
-use Rattle.ptp_profile.specs.Management.{managed_head, managed_octets, purpose_octets, tlv_octets}
+use Rattle.ptp_management.specs.ManagementMessages.{managed_head, managed_octets, purpose_octets, tlv_octets}
 use Rattle.ptp_tlv.proofs.writing.write.Goals as goal
 
 joined : (h p t a b w x : List ℕ) → a ≡ h → b ≡ a ++ p → w ≡ b ++ t → x ≡ w → x ≡ h ++ (p ++ t)

@@ -1,6 +1,6 @@
 use Rattle.std.proofs.Common.{arith, refl}
-use Rattle.ptp_wire.proofs.Puts.{put_behind}
-use Rattle.ptp_profile.specs.Wire.{time_octets, said_octets}
+use Rattle.ptp_wire.proofs.lemmas.FieldLemmas.{put_behind}
+use Rattle.ptp_profile.specs.Wire.MessageFormat.{time_octets, said_octets}
 use Rattle.std.specs.Prelude.{unsigned_abs}
 use Rattle.ptp_base.specs.Header.{port_octets}
 use Rattle.ptp_wire.proofs.writing.body_put.Goals as goal

@@ -1,6 +1,6 @@
 use Rattle.std.proofs.Common.{sym, ap, ◌∙◌}
-use Rattle.ptp_base.specs.declared.head.Head.{Head}
-use Rattle.ptp_wire.proofs.Lengths.{length_written}
+use Rattle.ptp_base.specs.declared.header.Head.{Head}
+use Rattle.ptp_wire.proofs.lemmas.MessageLengthLemmas.{length_written}
 use Rattle.ptp_wire.proofs.writing.written_length.Goals as goal
 
 pub returns-clause-length : goal.returns-clause-length

@@ -1,0 +1,3 @@
+pub mod PrintedLineLemmas
+pub mod AnswerLemmas
+pub mod QueryWordLemmas

@@ -1,0 +1,3 @@
+pub mod ManagementMessages
+pub mod ManagementFields
+pub mod ManagementQueries

@@ -1,0 +1,17 @@
+pub mod PortLemmas
+pub mod ServoLemmas
+pub mod StateDecisionLemmas
+pub mod MedianLemmas
+pub mod MessageReadingLemmas
+pub mod MessageRoundTripLemmas
+pub mod FreeOctetLemmas
+pub mod GrantLemmas
+pub mod CoherenceLemmas
+pub mod GenerationLemmas
+pub mod EdgeLemmas
+pub mod OrderLemmas
+pub mod ForestLemmas
+pub mod MemberLemmas
+pub mod SeatLogLemmas
+pub mod BestLemmas
+pub mod SenderLemmas

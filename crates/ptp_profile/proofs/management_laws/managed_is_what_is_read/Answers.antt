@@ -1,5 +1,0 @@
-use Rattle.ptp_profile.proofs.ManagedLemmas.{managed_from, managed_to}
-use Rattle.ptp_profile.proofs.management_laws.managed_is_what_is_read.Goals as goal
-
-pub returns : goal.returns
-returns c = λ domain b m. (managed_from domain b m, managed_to domain b m)

@@ -1,8 +1,0 @@
-use Rattle.ptp_profile.proofs.ManagedLemmas.{managed_again, one_spelling}
-use Rattle.ptp_profile.proofs.management_laws.one_management_spelling.Goals as goal
-
-pub returns-clause-again : goal.returns-clause-again
-returns-clause-again c = managed_again
-
-pub returns-clause-apart : goal.returns-clause-apart
-returns-clause-apart c = one_spelling

@@ -1,0 +1,3 @@
+pub mod Servo
+pub mod OffsetAndDelay
+pub mod TimingExamples
