@@ -1,1 +1,1 @@
-pub mod Masters
+pub mod DataSetsView

@@ -1,8 +1,8 @@
 ghost use Rattle.std.specs.Prelude.{◌≡◌, ◌≢◌, ◌<◌, pos, IfSome};
 ghost use Rattle.std.specs.Option.{option_copied};
 ghost use Rattle.ptp_base.specs.declared.limits.TheConstants.{STEPS_END};
-ghost use Rattle.ptp_profile.specs.DataSets.{applied, master_of, own_master};
-ghost use Rattle.data_sets.specs.Masters.{master_in, announced_by, own_port, with_master};
+ghost use Rattle.ptp_profile.specs.Best.MasterData.{after_code, master_of, local_master};
+ghost use Rattle.data_sets.specs.DataSetsView.{master_in, announced_by, port_zero, with_master};
 
 use crate::port_set::PortSets;
 use ptp_base::{Announcement, ClockId, Code, PortId, Quality, TimeProps};
@@ -40,7 +40,7 @@ pub struct DataSets {
 
 /// Port 0 of the clock that sent the announcement, which stands for the clock itself.
 fn own_port(own: &Announcement) -> PortId
-    ensures { result ≡ own_port own.now }
+    ensures { result ≡ port_zero own.now }
 {
     PortId {
         clock: own.sender.clock,
@@ -59,7 +59,7 @@ impl DataSets {
           steps = 0;
           offset = pos 0;
           delay = pos 0;
-          parent = own_port own;
+          parent = port_zero own;
           grandmaster = own.grandmaster;
           gm_quality = own.quality;
           time = local_time;
@@ -83,7 +83,7 @@ impl DataSets {
 
     /// M1 and M2: the clock follows nobody (IEEE 1588-2019, table 30).
     fn follow_nobody(&mut self)
-        ensures { self.new ≡ with_master self.old (own_master (announced_by self.old)) }
+        ensures { self.new ≡ with_master self.old (local_master (announced_by self.old)) }
     {
         self.steps = 0;
         self.parent = own_port(&self.own);
@@ -111,7 +111,9 @@ impl DataSets {
     /// other codes do. At S1 a `best` is of fewer than `STEPS_END` steps. Does not allocate.
     pub fn apply(&mut self, code: Code, best: Option<&Announcement>)
         requires near { code ≡ Code.S1 → IfSome (option_copied best) (λ a. a.steps < STEPS_END) }
-        ensures master { master_in self.new ≡ applied (announced_by self.old) (option_copied best.entry) (master_in self.old) code }
+        ensures master { master_in self.new
+            ≡ after_code (announced_by self.old) (option_copied best.entry) (master_in self.old)
+            code }
         ensures rest { self.new ≡ with_master self.old (master_in self.new) }
         ensures same { code ≢ Code.M1 → code ≢ Code.M2 → code ≢ Code.S1 → self.new ≡ self.old }
     {

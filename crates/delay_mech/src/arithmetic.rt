@@ -1,37 +1,9 @@
 ghost use Rattle.std.specs.Prelude.{◌≡◌, pos, ◌^◌, ◌+ℤ◌, ◌-ℤ◌, ◌*ℤ◌};
 ghost use Rattle.ptp_base.specs.Floor.{IsWithin, floor_of};
-ghost use Rattle.ptp_profile.specs.Sync.{delay_sum, delay_of};
-ghost use Rattle.delay_mech.specs.Memory.{IsCorrection, IsDelay};
+ghost use Rattle.ptp_profile.specs.Timing.OffsetAndDelay.{delay_sum, delay_of};
+ghost use Rattle.delay_mech.specs.DelaysView.{IsCorrection, IsDelay};
 
-use ptp_base::{Scaled, Triple, floor_div};
-
-/// What passes from one time to another, both in ns, in ns times 65,536.
-pub fn passed(from: i64, to: i64) -> Scaled
-    ensures exact { result ≡ (to -ℤ from) *ℤ pos 65536 }
-    ensures within { IsWithin (pos (2 ^ 80)) result }
-{
-    (i128::from(to) - i128::from(from)) * 65536
-}
-
-/// The sum of both ways, in ns times 65,536.
-fn both(there: Scaled, back: Scaled) -> Scaled
-    requires there { IsWithin (pos (2 ^ 80)) there }
-    requires back { IsWithin (pos (2 ^ 80)) back }
-    ensures exact { result ≡ there +ℤ back }
-    ensures within { IsWithin (pos (2 ^ 81)) result }
-{
-    there + back
-}
-
-/// A sum less a part of it, in ns times 65,536: the sum is from -2^83 to 2^83, the part, a delay or a
-/// correction, from -2^82 to 2^82.
-pub fn less(sum: Scaled, part: Scaled) -> Scaled
-    requires sum { IsWithin (pos (2 ^ 83)) sum }
-    requires part { IsDelay part }
-    ensures { result ≡ sum -ℤ part }
-{
-    sum - part
-}
+use ptp_base::{Scaled, Triple, floor_div, time_between};
 
 /// Twice the delay (IEEE 1588-2019, 11.3.2), in ns times 65,536.
 fn delay_sum(t: &Triple, sent: i64, received: i64, correction: i64) -> Scaled
@@ -39,8 +11,9 @@ fn delay_sum(t: &Triple, sent: i64, received: i64, correction: i64) -> Scaled
     ensures exact { result ≡ delay_sum t.now sent received correction }
     ensures within { IsWithin (pos (2 ^ 82)) result }
 {
-    let uncorrected = both(passed(sent, t.arrived), passed(t.origin, received));
-    less(less(uncorrected, t.correction), i128::from(correction))
+    let there = time_between(sent, t.arrived);
+    let back = time_between(t.origin, received);
+    there + back - t.correction - i128::from(correction)
 }
 
 /// The floor of half a number.

@@ -1,11 +1,11 @@
 ghost use Rattle.std.specs.Prelude.{◌≡◌, ◌≤◌, ℤ, List, [], IfOk, IfSome, option_map};
 ghost use Rattle.ptp_base.specs.declared.limits.TheConstants.{DELAYS_MAX};
-ghost use Rattle.ptp_profile.specs.Sync.{with_delay, median, mean_of};
-ghost use Rattle.delay_mech.specs.Memory.{Remembers, IsCorrection, IsDelay, empty, request_of, answered_by, after_response, response_to};
+ghost use Rattle.ptp_profile.specs.Timing.OffsetAndDelay.{with_delay, median, mean_of};
+ghost use Rattle.delay_mech.specs.DelaysView.{DelaysRepresent, IsCorrection, IsDelay, empty, request_of, answered_by, after_response, response_to};
 
 use crate::arithmetic::delay;
 use crate::median::median;
-use crate::request::Waiting;
+use crate::request::Request;
 use circular_buffer::HeapCircularBuffer;
 use ptp_base::{DELAYS_MAX, NoMemory, PortId, Scaled, Triple};
 use std::alloc::Global;
@@ -27,16 +27,16 @@ pub struct Delays {
     own: PortId,
     length: u8,
     triple: Option<Triple>,
-    request: Option<Waiting>,
+    request: Option<Request>,
     /// The newest first.
     delays: HeapCircularBuffer<Scaled>,
 }
 
 impl Model for Delays {
     ghost use Rattle.std.specs.Prelude.{option_map};
-    ghost use Rattle.delay_mech.specs.Memory.{Memory, IsSound, request_of};
+    ghost use Rattle.delay_mech.specs.DelaysView.{DelaysView, IsSound, request_of};
 
-    ghost Value = { Memory };
+    ghost Value = { DelaysView };
 
     ghost view = { λ d. record { own = d.own; length = d.length; triple = d.triple; request = option_map request_of d.request; delays = d.delays.items } };
 
@@ -49,7 +49,7 @@ impl Delays {
         requires some { 1 ≤ length }
         requires few { length ≤ DELAYS_MAX }
         ensures exact { IfOk result (λ d. d ≡ empty own length) }
-        ensures all { IfOk result (λ d. Remembers d []) }
+        ensures all { IfOk result (λ d. DelaysRepresent d []) }
     {
         Ok(Delays {
             own,
@@ -72,13 +72,14 @@ impl Delays {
     /// Keeps a Delay_Req that was sent at `sent`, in ns of the port's clock, in place of the last one
     /// (IEEE 1588-2019, 9.5.11).
     pub fn request(&mut self, seq: u16, sent: i64)
-        ensures { self.new ≡ record self.old { request = Some (record { seq = seq; sent = sent }) } }
+        ensures { self.new
+            ≡ record self.old { request = Some (record { seq = seq; sent = sent }) } }
     {
-        self.request = Some(Waiting { seq, sent });
+        self.request = Some(Request { seq, sent });
     }
 
     /// The request that a Delay_Resp for the port `requesting` answers (IEEE 1588-2019, 9.5.7).
-    fn answered(&self, seq: u16, requesting: PortId) -> Option<Waiting>
+    fn request_answered(&self, seq: u16, requesting: PortId) -> Option<Request>
         ensures { option_map request_of result ≡ answered_by self.now seq requesting }
     {
         match self.request {
@@ -88,8 +89,9 @@ impl Delays {
     }
 
     /// Gives the request up, and counts the delay that it shows with the last Sync.
-    fn finish(&mut self, request: &Waiting, received: i64, correction: i64)
-        ensures { self.new ≡ after_response self.old (Some (request_of request.now)) received correction }
+    fn finish(&mut self, request: &Request, received: i64, correction: i64)
+        ensures { let answered = Some (request_of request.now) in
+            self.new ≡ after_response self.old answered received correction }
     {
         self.request = None;
         if let Some(t) = &self.triple {
@@ -112,11 +114,13 @@ impl Delays {
         correction: i64,
     ) -> Response
         ensures answer { result ≡ response_to (answered_by self.old seq requesting) }
-        ensures exact { self.new ≡ after_response self.old (answered_by self.old seq requesting) received correction }
-        ensures all { (all : List ℤ) → Remembers self.old all
-            → Remembers self.new (with_delay self.old.triple (answered_by self.old seq requesting) received correction all) }
+        ensures exact { let request = answered_by self.old seq requesting in
+            self.new ≡ after_response self.old request received correction }
+        ensures all { let request = answered_by self.old seq requesting in (all : List ℤ) →
+            DelaysRepresent self.old all →
+            DelaysRepresent self.new (with_delay self.old.triple request received correction all) }
     {
-        match self.answered(seq, requesting) {
+        match self.request_answered(seq, requesting) {
             None => Response::Unmatched,
             Some(request) => {
                 self.finish(&request, received, correction);
@@ -126,10 +130,11 @@ impl Delays {
     }
 
     /// The mean delay in ns times 65,536: the median of the last `length` delays, or None where there
-    /// is none (the median is own; IEEE 1588-2019, 11.3.2, leaves the filter to the clock).
+    /// is none (the median is the project's; IEEE 1588-2019, 11.3.2, leaves the filter to the clock).
     pub fn mean(&self) -> Option<Scaled>
         ensures exact { result ≡ median self.now.delays }
-        ensures all { (all : List ℤ) → Remembers self.now all → result ≡ mean_of self.now.length all }
+        ensures all { (all : List ℤ) → DelaysRepresent self.now all →
+            result ≡ mean_of self.now.length all }
 
         // It is from -2^82 to 2^82.
         ensures within { IfSome result IsDelay }
@@ -155,7 +160,7 @@ impl Delays {
     /// Drops the request, the Sync and all delays.
     pub fn clear(&mut self)
         ensures exact { self.new ≡ empty self.old.own self.old.length }
-        ensures all { Remembers self.new [] }
+        ensures all { DelaysRepresent self.new [] }
     {
         self.flush();
         self.delays.clear();

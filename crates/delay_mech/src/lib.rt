@@ -7,7 +7,6 @@ mod delays;
 mod median;
 mod request;
 
-pub use arithmetic::{less, passed};
 pub use delays::{Delays, Response};
 pub use ptp_base::Triple;
 

@@ -1,6 +1,6 @@
 ghost use Rattle.std.specs.Prelude.{◌≡◌, ◌≢◌, [], All, IfSome};
-ghost use Rattle.ptp_profile.specs.Sync.{median, middle};
-ghost use Rattle.delay_mech.specs.Memory.{IsDelay};
+ghost use Rattle.ptp_profile.specs.Timing.OffsetAndDelay.{median, middle};
+ghost use Rattle.delay_mech.specs.DelaysView.{IsDelay};
 
 use crate::arithmetic::halfway;
 use ptp_base::Scaled;

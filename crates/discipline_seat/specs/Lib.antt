@@ -1,2 +1,2 @@
-pub mod Seats
-pub mod Inside
+pub mod SeatsView
+pub mod SeatInvariants

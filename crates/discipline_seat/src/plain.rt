@@ -3,10 +3,10 @@ ghost use Rattle.ptp_base.specs.declared.limits.TheConstants.{CLOCKS_MAX, GENERA
 ghost use Rattle.model_clock.specs.Clock.{IsClock};
 ghost use Rattle.ptp_base.specs.Floor.{IsWithin};
 ghost use Rattle.ptp_profile.specs.declared.seats.LogEntry.TheVariants.{Order};
-ghost use Rattle.ptp_profile.specs.Forest.{IsForest};
-ghost use Rattle.ptp_profile.specs.Logs.{HasOrder, change_of, exchange_answer, logs_from, order_count, MayFollow, IsController, IsRefusal};
-ghost use Rattle.discipline_seat.specs.Inside.{Line, logs_of, openings_of};
-ghost use Rattle.discipline_seat.specs.Seats.{ctrls_with, log_of, opened, reading_of, stamp_in, with_entry, Seats};
+ghost use Rattle.ptp_profile.specs.Roles.Forest.{IsForest};
+ghost use Rattle.ptp_profile.specs.Roles.SeatLogs.{HasOrder, change_of, exchange_answer, logs_from, order_count, MayFollow, IsController, IsRefusal};
+ghost use Rattle.discipline_seat.specs.SeatInvariants.{Line, logs_of, openings_of};
+ghost use Rattle.discipline_seat.specs.SeatsView.{ctrls_with, log_of, seats_at_opening, reading_of, stamp_in, with_entry, Seats};
 
 use crate::seat::Seat;
 use model_clock::ClockState;
@@ -27,8 +27,8 @@ pub struct PlainSeats {
 }
 
 impl Model for PlainSeats {
-    ghost use Rattle.discipline_seat.specs.Inside.{IsTable, logs_of, openings_of};
-    ghost use Rattle.discipline_seat.specs.Seats.{Seats};
+    ghost use Rattle.discipline_seat.specs.SeatInvariants.{IsTable, logs_of, openings_of};
+    ghost use Rattle.discipline_seat.specs.SeatsView.{Seats};
 
     ghost Value = { Seats };
 
@@ -45,7 +45,10 @@ impl Model for PlainSeats {
 /// Seats of these clocks.
 fn opened(alloc: Global, clocks: &[ClockState]) -> Result<Vec<Seat>, NoMemory>
     requires { All IsClock clocks.now }
-    ensures { IfOk result (λ seats. seats.items ≡ map (λ clock. record { opening = clock; log = []; room = 0 }) clocks.now) }
+    ensures { IfOk result
+        (λ seats.
+        seats.items
+        ≡ map (λ clock. record { opening = clock; log = []; room = 0 }) clocks.now) }
 {
     let mut seats = Vec::new(alloc);
     for clock in clocks {
@@ -63,7 +66,7 @@ impl PlainSeats {
         requires clocks { All IsClock clocks.now }
         requires row { 1 ≤ rows }
         requires rows { rows ≤ ROWS_MAX }
-        ensures { IfOk result (λ seats. seats ≡ opened rows clocks.now) }
+        ensures { IfOk result (λ seats. seats ≡ seats_at_opening rows clocks.now) }
     {
         Ok(PlainSeats {
             rows,
@@ -151,8 +154,10 @@ impl PlainSeats {
         requires step { IsWithin TIME_MAX step }
         requires freq { IsWithin FREQ_MAX freq }
         ensures answer { result ≡ exchange_answer self.old.rows held (log_of self.old held.clock) }
-        ensures taken { OnOk result (self.new ≡ with_entry self.old held.clock (change_of held tick step freq)) }
-        ensures number { IfOk result (λ receipt. receipt.number ≡ length (log_of self.new held.clock)) }
+        ensures taken { OnOk result
+            (self.new ≡ with_entry self.old held.clock (change_of held tick step freq)) }
+        ensures number { IfOk result
+            (λ receipt. receipt.number ≡ length (log_of self.new held.clock)) }
         ensures refused { IfErr result (IsRefusal (log_of self.old held.clock) held self.old.rows) }
         ensures same { OnErr result (self.new ≡ self.old) }
     {
@@ -186,7 +191,8 @@ impl PlainSeats {
 fn reserve(seats: &mut Vec<Seat>, more: usize) -> Result<(), NoMemory>
     ensures openings { openings_of seats.new.items ≡ openings_of seats.old.items }
     ensures logs { logs_of seats.new.items ≡ logs_of seats.old.items }
-    ensures rooms { (spare : ℕ) → All (λ (line : Line). spare ≤ line.room) seats.old.items → All (λ (line : Line). spare ≤ line.room) seats.new.items }
+    ensures rooms { (spare : ℕ) → All (λ (line : Line). spare ≤ line.room) seats.old.items →
+        All (λ (line : Line). spare ≤ line.room) seats.new.items }
     ensures ok { OnOk result (All (λ (line : Line). more ≤ line.room) seats.new.items) }
 {
     let count = seats.len();

@@ -1,9 +1,9 @@
-ghost use Rattle.std.specs.Prelude.{◌≡◌, ◌≢◌, ◌+◌, ◌-◌, ◌<◌, ◌≤◌, ◌∷◌, [], length, reverse, IfOk, OnOk, OnErr, vec_len, vec_capacity};
+ghost use Rattle.std.specs.Prelude.{◌≡◌, ◌+◌, ◌-◌, ◌<◌, ◌≤◌, ◌∷◌, [], length, reverse, IfOk, OnOk, OnErr, vec_len, vec_capacity};
 ghost use Rattle.model_clock.specs.Clock.{IsClock};
 ghost use Rattle.ptp_base.specs.Floor.{IsWithin};
 ghost use Rattle.ptp_profile.specs.declared.seats.LogEntry.TheVariants.{Change, Order};
-ghost use Rattle.ptp_profile.specs.Logs.{change_of, stamp_after, exchange_answer, whole_reading};
-ghost use Rattle.discipline_seat.specs.Inside.{Line};
+ghost use Rattle.ptp_profile.specs.Roles.SeatLogs.{change_of, stamp_after, exchange_answer, whole_reading};
+ghost use Rattle.discipline_seat.specs.SeatInvariants.{Line};
 
 use model_clock::ClockState;
 use ptp_base::{FREQ_MAX, Items, NoMemory, TICK_MAX, TIME_MAX};
@@ -23,7 +23,7 @@ pub(crate) struct Seat {
 
 impl Model for Seat {
     ghost use Rattle.std.specs.Prelude.{◌+◌, ◌≤◌, reverse, vec_len, vec_capacity};
-    ghost use Rattle.discipline_seat.specs.Inside.{IsKept, Line};
+    ghost use Rattle.discipline_seat.specs.SeatInvariants.{IsKept, Line};
 
     ghost Value = { Line };
 
@@ -88,7 +88,12 @@ impl Seat {
     pub(crate) fn order(&mut self, gener: u32, ctrl: u8) -> Receipt
         requires room { 0 < self.old.room }
         requires short { length self.old.log + 1 < 4294967296 }
-        ensures log { self.new ≡ record { opening = self.old.opening; log = Order gener ctrl ∷ self.old.log; room = self.old.room - 1 } }
+        ensures log { self.new
+            ≡ record {
+              opening = self.old.opening;
+              log = Order gener ctrl ∷ self.old.log;
+              room = self.old.room - 1;
+            } }
         ensures number { result ≡ record { number = length self.old.log + 1 } }
     {
         self.entries.push_reserved(LogEntry::Order { gener, ctrl });
@@ -106,7 +111,14 @@ impl Seat {
         requires tick { tick ≤ TICK_MAX }
         requires step { IsWithin TIME_MAX step }
         requires freq { IsWithin FREQ_MAX freq }
-        ensures log { self.new ≡ record { opening = self.old.opening; log = Change (stamp_after self.old.log).gener (stamp_after self.old.log).ctrl tick step freq ∷ self.old.log; room = self.old.room - 1 } }
+        ensures log { self.new
+            ≡ record {
+              opening = self.old.opening;
+              log = Change (stamp_after self.old.log).gener (stamp_after self.old.log).ctrl
+                  tick step freq
+                  ∷ self.old.log;
+              room = self.old.room - 1;
+            } }
         ensures number { result ≡ record { number = length self.old.log + 1 } }
     {
         self.entries.push_reserved(LogEntry::Change {
@@ -138,8 +150,15 @@ impl Seat {
         requires step { IsWithin TIME_MAX step }
         requires freq { IsWithin FREQ_MAX freq }
         ensures answer { result ≡ exchange_answer rows held.now self.old.log }
-        ensures taken { OnOk result (self.new ≡ record { opening = self.old.opening; log = change_of held.now tick step freq ∷ self.old.log; room = self.old.room - 1 }) }
-        ensures number { IfOk result (λ receipt. receipt ≡ record { number = length self.old.log + 1 }) }
+        ensures taken { OnOk result
+            (self.new
+            ≡ record {
+              opening = self.old.opening;
+              log = change_of held.now tick step freq ∷ self.old.log;
+              room = self.old.room - 1;
+            }) }
+        ensures number { IfOk result
+            (λ receipt. receipt ≡ record { number = length self.old.log + 1 }) }
         ensures same { OnErr result (self.new ≡ self.old) }
     {
         let at = self.entries.len() as u32;
@@ -157,7 +176,8 @@ impl Seat {
 
     /// The log. Does not allocate.
     pub(crate) fn into_log(self, clock: u8) -> Log
-        ensures { result ≡ record { clock = clock; opening = self.opening; entries = reverse self.log } }
+        ensures { result
+            ≡ record { clock = clock; opening = self.opening; entries = reverse self.log } }
     {
         let Seat {
             opening,

@@ -1,5 +1,4 @@
 ghost use Rattle.std.specs.Prelude.{◌≡◌, ◌+◌, ◌≤◌, ◌∷◌, [], IfOk};
-ghost use Rattle.model_clock.specs.Clock.{IsClock};
 ghost use Rattle.ptp_profile.specs.declared.seats.LogEntry.TheVariants.{Order};
 
 use crate::*;

@@ -1,5 +1,5 @@
 ghost use Rattle.std.specs.Prelude.{◌≡◌, ◌+◌};
-ghost use Rattle.ptp_profile.specs.Compare.{by_path, ends_cmp};
+ghost use Rattle.ptp_profile.specs.Best.Comparison.{by_path, ends_cmp};
 
 use ptp_base::Announcement;
 use ptp_profile::Order;

@@ -1,6 +1,6 @@
 ghost use Rattle.std.specs.Prelude.{◌≡◌};
-ghost use Rattle.ptp_profile.specs.Compare.{order_of, wins};
-ghost use Rattle.ptp_profile.specs.Foreign.{better};
+ghost use Rattle.ptp_profile.specs.Best.Comparison.{order_of, wins};
+ghost use Rattle.ptp_profile.specs.Best.ForeignMasters.{better};
 
 use crate::compare_masters::by_master;
 use crate::compare_paths::by_path;
@@ -27,7 +27,7 @@ pub fn wins(a: &Announcement, b: &Announcement) -> bool
 }
 
 /// Of two the later one exactly where it wins, by quality or topology; where there is no former one
-/// it is the later (IEEE 1588-2019, 9.3.2; that equal ones keep the former is own).
+/// it is the later (IEEE 1588-2019, 9.3.2; that equal ones keep the former is the project's).
 pub fn better(former: Option<Announcement>, later: &Announcement) -> Option<Announcement>
     ensures { result ≡ better former later.now }
 {

@@ -1,7 +1,7 @@
 ghost use Rattle.std.specs.Prelude.{◌≡◌, List, All, length};
-ghost use Rattle.ptp_profile.specs.declared.foreign.KeptAnnounce.{KeptAnnounce};
-ghost use Rattle.foreign_master.specs.Memory.{Remembers};
-ghost use Rattle.foreign_master.specs.Calls.{IsHeardBy, IsReachedBy, AreInTime, kept_after, kept_after_all, answer_of, answers_of};
+ghost use Rattle.ptp_profile.specs.declared.foreign_master.KeptAnnounce.{KeptAnnounce};
+ghost use Rattle.foreign_master.specs.RecordsView.{RecordsRepresent};
+ghost use Rattle.foreign_master.specs.RecordCalls.{IsHeardBy, IsReachedBy, AreInTime, kept_after, kept_after_all, answer_of, answers_of};
 
 use crate::records::Records;
 use ptp_base::Announcement;
@@ -33,10 +33,11 @@ impl Records {
     /// Makes one call.
     fn call(&mut self, call: &Call) -> Answer
         requires { IsHeardBy self.old.receiver call.now }
-        ensures answer { (kept : List KeptAnnounce) → Remembers self.old kept
+        ensures answer { (kept : List KeptAnnounce) → RecordsRepresent self.old kept
             → IsReachedBy call.now kept → result ≡ answer_of self.old.window kept call.now }
-        ensures kept { (kept : List KeptAnnounce) → Remembers self.old kept
-            → IsReachedBy call.now kept → Remembers self.new (kept_after self.old.window kept call.now) }
+        ensures kept { (kept : List KeptAnnounce) → RecordsRepresent self.old kept
+            → IsReachedBy call.now kept
+            → RecordsRepresent self.new (kept_after self.old.window kept call.now) }
         ensures window { self.new.window ≡ self.old.window }
         ensures receiver { self.new.receiver ≡ self.old.receiver }
     {
@@ -51,15 +52,16 @@ impl Records {
     }
 
     /// Makes these calls, one after another, and writes their answers into `answers`: those that the
-    /// whole list of kept Announces gives, whatever was called before (own).
+    /// whole list of kept Announces gives, whatever was called before.
     pub fn run(&mut self, calls: &[Call], answers: &mut [Answer])
         requires heard_by { All (IsHeardBy self.old.receiver) calls.now }
         requires same_length { length answers.old ≡ length calls.now }
-        ensures answers { (kept : List KeptAnnounce) → Remembers self.old kept
-            → AreInTime self.old.window kept calls.now → answers.new ≡ answers_of self.old.window kept calls.now }
-        ensures kept { (kept : List KeptAnnounce) → Remembers self.old kept
+        ensures answers { (kept : List KeptAnnounce) → RecordsRepresent self.old kept
             → AreInTime self.old.window kept calls.now
-            → Remembers self.new (kept_after_all self.old.window kept calls.now) }
+            → answers.new ≡ answers_of self.old.window kept calls.now }
+        ensures kept { (kept : List KeptAnnounce) → RecordsRepresent self.old kept
+            → AreInTime self.old.window kept calls.now
+            → RecordsRepresent self.new (kept_after_all self.old.window kept calls.now) }
         ensures window { self.new.window ≡ self.old.window }
         ensures receiver { self.new.receiver ≡ self.old.receiver }
     {

@@ -3,8 +3,8 @@
 #![tactic(auto)]
 
 mod calls;
+mod foreign_master;
 mod pass;
-mod place;
 mod records;
 mod search;
 mod window;

@@ -1,11 +1,11 @@
-ghost use Rattle.std.specs.Prelude.{◌≡◌, ◌<◌, length, List, IfSome};
+ghost use Rattle.std.specs.Prelude.{◌≡◌, ◌<◌, List, IfSome};
 ghost use Rattle.ptp_base.specs.declared.limits.TheConstants.{STEPS_END};
-ghost use Rattle.ptp_profile.specs.declared.foreign.KeptAnnounce.{KeptAnnounce};
-ghost use Rattle.ptp_profile.specs.Foreign.{erbest};
-ghost use Rattle.foreign_master.specs.Places.{Keeps, IsReached, AreNear};
-ghost use Rattle.foreign_master.specs.Passing.{is_above, nearer, IsLeast};
+ghost use Rattle.ptp_profile.specs.declared.foreign_master.KeptAnnounce.{KeptAnnounce};
+ghost use Rattle.ptp_profile.specs.Best.ForeignMasters.{erbest};
+ghost use Rattle.foreign_master.specs.ForeignMasterTable.{MastersRepresent, IsReached, AreNear};
+ghost use Rattle.foreign_master.specs.PassOrder.{is_above, nearer, next_eligible};
 
-use crate::place::Place;
+use crate::foreign_master::ForeignMaster;
 use crate::window::is_within;
 use ds_compare::better;
 use ptp_base::{Announcement, PortId};
@@ -20,25 +20,25 @@ fn is_above(former: Option<PortId>, sender: PortId) -> bool
     }
 }
 
-/// Of the nearest place so far and another one, that of the lower sender. Only a qualified place of
-/// a sender above the former one counts.
+/// Of the nearest so far and another foreign master, that of the lower sender. Only one that
+/// qualifies, and whose sender is above the former one, counts.
 fn nearer(
-    nearest: Option<Place>,
-    place: &Place,
+    nearest: Option<ForeignMaster>,
+    master: &ForeignMaster,
     window: u64,
     at: u64,
     former: Option<PortId>,
-) -> Option<Place>
-    ensures { result ≡ nearer window at former nearest place.now }
+) -> Option<ForeignMaster>
+    ensures { result ≡ nearer window at former nearest master.now }
 {
-    if !is_above(former, place.said.sender) || !is_within(place.before, window, at) {
+    if !is_above(former, master.said.sender) || !is_within(master.before, window, at) {
         return nearest;
     }
     match nearest {
-        None => Some(*place),
+        None => Some(*master),
         Some(lowest) => {
-            if place.said.sender < lowest.said.sender {
-                Some(*place)
+            if master.said.sender < lowest.said.sender {
+                Some(*master)
             } else {
                 Some(lowest)
             }
@@ -46,30 +46,35 @@ fn nearer(
     }
 }
 
-/// The qualified place of the least sender above a former one.
-fn find_next(places: &[Place], window: u64, at: u64, former: Option<PortId>) -> Option<Place>
-    ensures { IsLeast window at former places.now (length places.now) result }
+/// The foreign master that qualifies, of the least sender above a former one.
+fn find_next(
+    masters: &[ForeignMaster],
+    window: u64,
+    at: u64,
+    former: Option<PortId>,
+) -> Option<ForeignMaster>
+    ensures { result ≡ next_eligible window at former masters.now }
 {
     let mut nearest = None;
-    for place in places {
-        nearest = nearer(nearest, place, window, at, former);
+    for master in masters {
+        nearest = nearer(nearest, master, window, at, former);
     }
     nearest
 }
 
-/// The winner of one pass over the qualified places, in rising sender identity
-/// (IEEE 1588-2019, 9.3.2; the order of the pass is own).
-pub(crate) fn winner(places: &[Place], window: u64, at: u64) -> Option<Announcement>
-    requires { AreNear places.now }
-    ensures best { (kept : List KeptAnnounce) → Keeps window places.now kept → IsReached at kept
-        → result ≡ erbest window at kept }
+/// The winner of one pass over the foreign masters that qualify, in rising sender identity
+/// (IEEE 1588-2019, 9.3.2; the order of the pass is the project's).
+pub(crate) fn winner(masters: &[ForeignMaster], window: u64, at: u64) -> Option<Announcement>
+    requires { AreNear masters.now }
+    ensures best { (kept : List KeptAnnounce) → MastersRepresent window masters.now kept
+        → IsReached at kept → result ≡ erbest window at kept }
     ensures near { IfSome result (λ a. a.steps < STEPS_END) }
 {
     let mut best = None;
     let mut former = None;
-    while let Some(place) = find_next(places, window, at, former) {
-        best = better(best, &place.said);
-        former = Some(place.said.sender);
+    while let Some(master) = find_next(masters, window, at, former) {
+        best = better(best, &master.said);
+        former = Some(master.said.sender);
     }
     best
 }

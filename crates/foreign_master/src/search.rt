@@ -1,22 +1,24 @@
 ghost use Rattle.std.specs.Prelude.{◌≡◌, not, position};
-ghost use Rattle.foreign_master.specs.Places.{is_of, is_present};
+ghost use Rattle.foreign_master.specs.ForeignMasterTable.{is_of, is_present};
 
-use crate::place::Place;
+use crate::foreign_master::ForeignMaster;
 use crate::window::is_in_window;
 use ptp_base::PortId;
 
-/// The first place of a sender.
-pub(crate) fn find_sender(places: &[Place], sender: PortId) -> Option<usize>
-    ensures { result ≡ position (is_of sender) places.now }
+/// The foreign master of a sender.
+pub(crate) fn find_sender(masters: &[ForeignMaster], sender: PortId) -> Option<usize>
+    ensures { result ≡ position (is_of sender) masters.now }
 {
-    places.iter().position(|place| place.said.sender == sender)
+    masters
+        .iter()
+        .position(|master| master.said.sender == sender)
 }
 
-/// The first place whose sender has left the window.
-pub(crate) fn find_left(places: &[Place], window: u64, at: u64) -> Option<usize>
-    ensures { result ≡ position (λ p. not (is_present window at p)) places.now }
+/// The first foreign master that has left the window.
+pub(crate) fn find_left(masters: &[ForeignMaster], window: u64, at: u64) -> Option<usize>
+    ensures { result ≡ position (λ p. not (is_present window at p)) masters.now }
 {
-    places
+    masters
         .iter()
-        .position(|place| !is_in_window(place.last, window, at))
+        .position(|master| !is_in_window(master.last, window, at))
 }

@@ -1,3 +1,2 @@
-pub mod Samples
-pub mod Run
-pub mod Steering
+pub mod ServoView
+pub mod SteererView

@@ -1,17 +1,10 @@
-//! The servo that keeps a clock to its master by its offsets from it (own: it isn't part of
-//! IEEE 1588-2019).
+//! The servo that keeps a clock to its master by its offsets from it. It is the project's own:
+//! IEEE 1588-2019 leaves the servo to the clock.
 #![tactic(auto)]
 
-mod action;
-mod estimate;
-mod gains;
-mod limit;
-mod point;
-mod running;
+mod pi;
 mod servo;
-mod stage;
 mod steerer;
-mod threshold;
 
 pub use ptp_profile::{Action, ServoConf};
 pub use servo::Servo;

@@ -1,26 +1,32 @@
 ghost use Rattle.std.specs.Prelude.{ℕ, ℤ, pos, ◌≡◌, ◌<◌, true, false, List, [], ◌∷◌};
 ghost use Rattle.ptp_base.specs.Floor.{IsWithin};
 ghost use Rattle.ptp_profile.specs.declared.timing.ServoConf.{ServoConf};
-ghost use Rattle.ptp_profile.specs.Servo.{Sample, Running, estimate, next_phase, next_drift, first_action, action_at, action_after, is_held, IsGentle};
-ghost use Rattle.pi_servo.specs.Samples.{sample_at};
-ghost use Rattle.pi_servo.specs.Run.{Runs, Steps};
+ghost use Rattle.ptp_profile.specs.Timing.Servo.{Sample, Running, estimate, next_phase, next_drift, first_action, action_at, action_after, is_held, IsGentle};
+ghost use Rattle.pi_servo.specs.ServoView.{sample_at, ServoRepresents, ServoYields};
 
-use crate::action::{first_action_of, running_action_of};
-use crate::estimate::estimate_of;
-use crate::limit::{hold, limit_of};
-use crate::point::Point;
-use crate::running::drift_with;
-use crate::stage::Stage;
-use crate::threshold::is_above;
+use crate::pi::{
+    Point, estimate, first_action, held_within, is_beyond, limit, running_action, running_drift,
+};
 use ptp_base::TIME_MAX;
 use ptp_profile::{Action, ServoConf};
 use std::marker::Model;
 
-/// A proportional and integral servo over one run of offsets (own). It does not allocate.
+/// How many samples a servo has of its run.
+#[derive(Clone, Copy)]
+pub(crate) enum Phase {
+    /// None yet.
+    NoSample,
+    /// Its first, and it waits for one from which to estimate its drift.
+    OneSample(Point),
+    /// It has estimated its drift.
+    Running,
+}
+
+/// A proportional and integral servo over one run of offsets. It does not allocate.
 #[derive(Drop)]
 pub struct Servo {
     conf: ServoConf,
-    stage: Stage,
+    phase: Phase,
     // Whether it has made an estimate. It stays so when the servo begins anew, so that the clock is
     // stepped for `first_step` once.
     locked: bool,
@@ -29,16 +35,13 @@ pub struct Servo {
 }
 
 impl Model for Servo {
-    ghost use Rattle.std.specs.Prelude.{pos};
-    ghost use Rattle.ptp_base.specs.Floor.{IsWithin};
-    ghost use Rattle.ptp_profile.specs.Servo.{limit};
-    ghost use Rattle.pi_servo.specs.Run.{Progress, phase_of};
+    ghost use Rattle.pi_servo.specs.ServoView.{ServoView, phase_of, IsDrift};
 
-    ghost Value = { Progress };
+    ghost Value = { ServoView };
 
-    ghost view = { λ s. record { conf = s.conf; phase = phase_of s.stage; locked = s.locked; drift = s.drift } };
+    ghost view = { λ s. record { conf = s.conf; phase = phase_of s.phase; locked = s.locked; drift = s.drift } };
 
-    ghost invariant = { λ s. IsWithin (pos (limit s.conf)) s.drift };
+    ghost invariant = { λ s. IsDrift s.conf s.drift };
 }
 
 impl Servo {
@@ -46,13 +49,13 @@ impl Servo {
     /// 65,536.
     pub fn new(conf: ServoConf, freq: i64) -> Servo
         ensures conf { result.conf ≡ conf }
-        ensures begun { Runs result conf freq [] }
+        ensures begun { ServoRepresents result conf freq [] }
     {
         Servo {
             conf,
-            stage: Stage::Begun,
+            phase: Phase::NoSample,
             locked: false,
-            drift: hold(limit_of(&conf), -(freq as i128)),
+            drift: held_within(limit(&conf), -(freq as i128)),
         }
     }
 
@@ -64,14 +67,17 @@ impl Servo {
         ensures phase { self.new.phase ≡ Running }
         ensures locked { self.new.locked ≡ true }
         ensures drift { (gener : ℕ) (freq : ℤ)
-            → self.new.drift ≡ estimate self.old.conf (sample_at gener freq point.now.offset point.now.local) first.now.offset (pos first.now.local) self.old.drift }
+            → let x = sample_at gener freq point.now.offset point.now.local in
+            let since = pos first.now.local in
+            self.new.drift ≡ estimate self.old.conf x first.now.offset since self.old.drift }
         ensures action { (gener : ℕ) (freq : ℤ)
-            → result ≡ first_action self.old.conf (sample_at gener freq point.now.offset point.now.local) self.old.locked self.new.drift }
+            → let x = sample_at gener freq point.now.offset point.now.local in
+            result ≡ first_action self.old.conf x self.old.locked self.new.drift }
         ensures gentle { IsGentle self.old.conf result }
     {
-        self.drift = estimate_of(&self.conf, first, point, self.drift);
-        let action = first_action_of(&self.conf, point.offset, self.locked, self.drift);
-        self.stage = Stage::Settled;
+        self.drift = estimate(&self.conf, first, point, self.drift);
+        let action = first_action(&self.conf, point.offset, self.locked, self.drift);
+        self.phase = Phase::Running;
         self.locked = true;
         action
     }
@@ -81,43 +87,48 @@ impl Servo {
         requires { self.old.phase ≡ Running }
         ensures conf { self.new.conf ≡ self.old.conf }
         ensures phase { (gener : ℕ) (freq : ℤ)
-            → self.new.phase ≡ next_phase self.old.conf (sample_at gener freq point.now.offset point.now.local) Running }
+            → let x = sample_at gener freq point.now.offset point.now.local in
+            self.new.phase ≡ next_phase self.old.conf x Running }
         ensures locked { self.new.locked ≡ self.old.locked }
         ensures drift { (gener : ℕ) (freq : ℤ)
-            → self.new.drift ≡ next_drift self.old.conf (sample_at gener freq point.now.offset point.now.local) Running self.old.drift }
+            → let x = sample_at gener freq point.now.offset point.now.local in
+            self.new.drift ≡ next_drift self.old.conf x Running self.old.drift }
         ensures action { (gener : ℕ) (freq : ℤ)
-            → result ≡ action_at self.old.conf (sample_at gener freq point.now.offset point.now.local) Running self.old.locked self.old.drift }
+            → let x = sample_at gener freq point.now.offset point.now.local in
+            result ≡ action_at self.old.conf x Running self.old.locked self.old.drift }
         ensures gentle { IsGentle self.old.conf result }
     {
-        if is_above(self.conf.step, point.offset) {
-            self.stage = Stage::Begun;
+        if is_beyond(self.conf.step, point.offset) {
+            self.phase = Phase::NoSample;
             return Action::Unlocked;
         }
-        let action = running_action_of(&self.conf, point.offset, self.drift);
-        self.drift = drift_with(&self.conf, point.offset, self.drift);
+        let action = running_action(&self.conf, point.offset, self.drift);
+        self.drift = running_drift(&self.conf, point.offset, self.drift);
         action
     }
 
     // Takes one more point.
     fn take(&mut self, point: &Point) -> Action
         requires { IsWithin TIME_MAX point.now.offset }
-        ensures steps { (gener : ℕ) (freq : ℤ) → Steps (sample_at gener freq point.now.offset point.now.local) self.old self.new result }
+        ensures yields { (gener : ℕ) (freq : ℤ)
+            → let x = sample_at gener freq point.now.offset point.now.local in
+            ServoYields x self.old self.new result }
         ensures gentle { IsGentle self.old.conf result }
     {
-        match self.stage {
-            Stage::Begun => {
-                self.stage = Stage::First(*point);
+        match self.phase {
+            Phase::NoSample => {
+                self.phase = Phase::OneSample(*point);
                 Action::Unlocked
             }
-            Stage::First(first) => {
+            Phase::OneSample(first) => {
                 if first.local < point.local {
                     self.lock(&first, point)
                 } else {
-                    self.stage = Stage::Begun;
+                    self.phase = Phase::NoSample;
                     Action::Unlocked
                 }
             }
-            Stage::Settled => self.run(point),
+            Phase::Running => self.run(point),
         }
     }
 
@@ -126,12 +137,16 @@ impl Servo {
     /// 65,536.
     pub fn sample(&mut self, offset: i64, local: u64) -> Action
         requires { IsWithin TIME_MAX offset }
-        ensures answer { (conf : ServoConf) (freq : ℤ) (before : List Sample) → Runs self.old conf freq before
-            → (gener : ℕ) (at : ℤ) → result ≡ action_after conf freq (sample_at gener at offset local) before }
-        ensures runs { (conf : ServoConf) (freq : ℤ) (before : List Sample) → Runs self.old conf freq before
-            → (gener : ℕ) (at : ℤ) → Runs self.new conf freq (sample_at gener at offset local ∷ before) }
+        ensures answer { (conf : ServoConf) (freq : ℤ) (before : List Sample)
+            → ServoRepresents self.old conf freq before → (gener : ℕ) (at : ℤ)
+            → result ≡ action_after conf freq (sample_at gener at offset local) before }
+        ensures runs { (conf : ServoConf) (freq : ℤ) (before : List Sample)
+            → ServoRepresents self.old conf freq before → (gener : ℕ) (at : ℤ)
+            → ServoRepresents self.new conf freq (sample_at gener at offset local ∷ before) }
         ensures held { (gener : ℕ) (at : ℤ)
-            → is_held self.old.conf (sample_at gener at offset local) self.old.phase self.old.drift ≡ true → self.new.drift ≡ self.old.drift }
+            → let x = sample_at gener at offset local in
+            is_held self.old.conf x self.old.phase self.old.drift ≡ true
+            → self.new.drift ≡ self.old.drift }
         ensures gentle { IsGentle self.old.conf result }
         ensures conf { self.new.conf ≡ self.old.conf }
     {

@@ -1,16 +1,16 @@
 ghost use Rattle.std.specs.Prelude.{◌≡◌, ◌≢◌, true, false, List, [], ◌∷◌, Some};
 ghost use Rattle.ptp_base.specs.Floor.{IsWithin};
 ghost use Rattle.ptp_profile.specs.declared.timing.ServoConf.{ServoConf};
-ghost use Rattle.ptp_profile.specs.Servo.{Sample, newest_action, IsGentle};
-ghost use Rattle.pi_servo.specs.Samples.{sample_at};
-ghost use Rattle.pi_servo.specs.Steering.{Steers};
+ghost use Rattle.ptp_profile.specs.Timing.Servo.{Sample, newest_action, IsGentle};
+ghost use Rattle.pi_servo.specs.ServoView.{sample_at};
+ghost use Rattle.pi_servo.specs.SteererView.{SteererRepresents};
 
 use crate::servo::Servo;
 use ptp_base::TIME_MAX;
 use ptp_profile::{Action, ServoConf};
 use std::marker::Model;
 
-/// Servos for the generations of a clock's samples, one after another (own). It does not allocate.
+/// Servos for the generations of a clock's samples, one after another. It does not allocate.
 #[derive(Drop)]
 pub struct Steerer {
     conf: ServoConf,
@@ -20,9 +20,9 @@ pub struct Steerer {
 
 impl Model for Steerer {
     ghost use Rattle.std.specs.Prelude.{◌≡◌};
-    ghost use Rattle.pi_servo.specs.Steering.{Steering};
+    ghost use Rattle.pi_servo.specs.SteererView.{SteererView};
 
-    ghost Value = { Steering };
+    ghost Value = { SteererView };
 
     ghost view = { λ s. record { conf = s.conf; generation = s.generation; servo = s.servo } };
 
@@ -33,7 +33,7 @@ impl Steerer {
     /// A steerer before its first sample.
     pub fn new(conf: ServoConf) -> Steerer
         ensures conf { result.conf ≡ conf }
-        ensures begun { Steers result conf [] }
+        ensures begun { SteererRepresents result conf [] }
     {
         Steerer {
             conf,
@@ -58,10 +58,12 @@ impl Steerer {
     /// in ppb times 65,536, at which the clock runs.
     pub fn sample(&mut self, gener: u32, freq: i64, offset: i64, local: u64) -> Action
         requires { IsWithin TIME_MAX offset }
-        ensures answer { (conf : ServoConf) (samples : List Sample) → Steers self.old conf samples
+        ensures answer { (conf : ServoConf) (samples : List Sample)
+            → SteererRepresents self.old conf samples
             → result ≡ newest_action conf (sample_at gener freq offset local ∷ samples) }
-        ensures steers { (conf : ServoConf) (samples : List Sample) → Steers self.old conf samples
-            → Steers self.new conf (sample_at gener freq offset local ∷ samples) }
+        ensures steers { (conf : ServoConf) (samples : List Sample)
+            → SteererRepresents self.old conf samples
+            → SteererRepresents self.new conf (sample_at gener freq offset local ∷ samples) }
         ensures gentle { IsGentle self.old.conf result }
         ensures conf { self.new.conf ≡ self.old.conf }
     {

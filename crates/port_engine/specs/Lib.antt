@@ -1,3 +1,3 @@
-pub mod Blanks
-pub mod Conf
-pub mod Engine
+pub mod BlankFrames
+pub mod PortIntervals
+pub mod EngineView

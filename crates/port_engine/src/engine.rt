@@ -1,10 +1,10 @@
 ghost use Rattle.std.specs.Prelude.{◌≡◌, ◌≤◌, ℕ, IfOk};
 ghost use Rattle.ptp_base.specs.declared.limits.TheConstants.{DELAYS_MAX};
-ghost use Rattle.ptp_base.specs.declared.number.TheConstants.{TICK_MAX};
-ghost use Rattle.ptp_profile.specs.Timers.{timer_at, due_of};
-ghost use Rattle.ptp_profile.specs.Port.{Port, open_port, renewed, flushed, cleared};
-ghost use Rattle.port_engine.specs.Conf.{HasIntervals};
-ghost use Rattle.port_engine.specs.Engine.{IsEngineOf};
+ghost use Rattle.ptp_base.specs.declared.time.TheConstants.{TICK_MAX};
+ghost use Rattle.ptp_profile.specs.Port.PortTimers.{timer_at, due_of};
+ghost use Rattle.ptp_profile.specs.Port.Port.{Port, open_port, with_receipt_renewed, after_clock_step, after_clearing};
+ghost use Rattle.port_engine.specs.PortIntervals.{HasIntervals};
+ghost use Rattle.port_engine.specs.EngineView.{EngineRepresents};
 
 use crate::intervals::{receipt_time, waiting};
 use delay_mech::Delays;
@@ -36,7 +36,7 @@ pub struct PortEngine {
 }
 
 impl Model for PortEngine {
-    ghost use Rattle.port_engine.specs.Engine.{Engine, IsSound};
+    ghost use Rattle.port_engine.specs.EngineView.{Engine, IsSound};
 
     ghost Value = { Engine };
 
@@ -52,7 +52,7 @@ impl PortEngine {
         requires intervals { HasIntervals c.now }
         requires some { 1 ≤ length }
         requires few { length ≤ DELAYS_MAX }
-        ensures { IfOk result (λ e. IsEngineOf length e (open_port id c.now)) }
+        ensures { IfOk result (λ e. EngineRepresents length e (open_port id c.now)) }
     {
         Ok(PortEngine {
             id,
@@ -91,7 +91,8 @@ impl PortEngine {
     /// A kept Announce sets announce receipt anew at `moment`, at most `TICK_MAX`.
     pub fn renew(&mut self, moment: u64)
         requires { moment ≤ TICK_MAX }
-        ensures { (length : ℕ) (p : Port) → IsEngineOf length self.old p → IsEngineOf length self.new (renewed moment p) }
+        ensures { (length : ℕ) (p : Port) → EngineRepresents length self.old p →
+            EngineRepresents length self.new (with_receipt_renewed moment p) }
     {
         self.timers
             .set(Timer::AnnounceReceipt, moment + receipt_time(&self.conf));
@@ -99,7 +100,8 @@ impl PortEngine {
 
     /// The clock was stepped: the times that were kept no longer hold. The delays stay.
     pub fn jumped(&mut self)
-        ensures { (length : ℕ) (p : Port) → IsEngineOf length self.old p → IsEngineOf length self.new (flushed p) }
+        ensures { (length : ℕ) (p : Port) → EngineRepresents length self.old p →
+            EngineRepresents length self.new (after_clock_step p) }
     {
         self.pairing.clear();
         self.delays.flush();
@@ -107,7 +109,8 @@ impl PortEngine {
 
     /// Pairing and delays are cleared.
     pub(crate) fn clear(&mut self)
-        ensures { (length : ℕ) (p : Port) → IsEngineOf length self.old p → IsEngineOf length self.new (cleared p) }
+        ensures { (length : ℕ) (p : Port) → EngineRepresents length self.old p →
+            EngineRepresents length self.new (after_clearing p) }
     {
         self.pairing.clear();
         self.delays.clear();

@@ -1,8 +1,8 @@
 ghost use Rattle.std.specs.Prelude.{◌≡◌, ◌==◌, ◌≤◌, ℕ};
-ghost use Rattle.ptp_base.specs.declared.number.TheConstants.{TICK_MAX};
-ghost use Rattle.ptp_profile.specs.Machine.{next, is_following, state_number};
-ghost use Rattle.ptp_profile.specs.Port.{Port, after_event, entered, uncalibrated, gets_parent, renewed, cleared};
-ghost use Rattle.port_engine.specs.Engine.{IsEngineOf};
+ghost use Rattle.ptp_base.specs.declared.time.TheConstants.{TICK_MAX};
+ghost use Rattle.ptp_profile.specs.Port.PortStates.{next, is_following, state_number};
+ghost use Rattle.ptp_profile.specs.Port.Port.{Port, after_event, after_entering, after_entering_uncalibrated, gets_parent, with_receipt_renewed, after_clearing};
+ghost use Rattle.port_engine.specs.EngineView.{EngineRepresents};
 
 use crate::engine::PortEngine;
 use crate::intervals::{following, qualifying, sending, waiting};
@@ -32,15 +32,16 @@ fn is_same(a: PortState, b: PortState) -> bool
 impl PortEngine {
     /// Another state, and the timers as they are.
     fn set_state(&mut self, state: PortState)
-        ensures { (length : ℕ) (p : Port) → IsEngineOf length self.old p → IsEngineOf length self.new (record p { state = state }) }
+        ensures { (length : ℕ) (p : Port) → EngineRepresents length self.old p →
+            EngineRepresents length self.new (record p { state = state }) }
     {
         self.state = state;
     }
 
     /// Another state, and other timers.
     fn set(&mut self, state: PortState, timers: Timers)
-        ensures { (length : ℕ) (p : Port) → IsEngineOf length self.old p
-            → IsEngineOf length self.new (record p { state = state; timers = timers }) }
+        ensures { (length : ℕ) (p : Port) → EngineRepresents length self.old p
+            → EngineRepresents length self.new (record p { state = state; timers = timers }) }
     {
         self.state = state;
         self.timers = timers;
@@ -49,7 +50,8 @@ impl PortEngine {
     /// UNCALIBRATED: by a decision the port begins to follow, by a synchronization fault it goes on.
     fn enter_uncalibrated(&mut self, cause: PortEvent, moment: u64)
         requires { moment ≤ TICK_MAX }
-        ensures { (length : ℕ) (p : Port) → IsEngineOf length self.old p → IsEngineOf length self.new (uncalibrated moment cause p) }
+        ensures { (length : ℕ) (p : Port) → EngineRepresents length self.old p →
+            EngineRepresents length self.new (after_entering_uncalibrated moment cause p) }
     {
         match cause {
             PortEvent::Decided(_) => {
@@ -64,7 +66,8 @@ impl PortEngine {
     /// Another state than the one before.
     fn enter_state(&mut self, new: PortState, cause: PortEvent, moment: u64, steps: u16)
         requires { moment ≤ TICK_MAX }
-        ensures { (length : ℕ) (p : Port) → IsEngineOf length self.old p → IsEngineOf length self.new (entered moment steps cause new p) }
+        ensures { (length : ℕ) (p : Port) → EngineRepresents length self.old p →
+            EngineRepresents length self.new (after_entering moment steps cause new p) }
     {
         match new {
             PortState::Uncalibrated => self.enter_uncalibrated(cause, moment),
@@ -90,8 +93,10 @@ impl PortEngine {
     /// S1 with a new parent, where the port follows already.
     fn follow_another(&mut self, moment: u64)
         requires { moment ≤ TICK_MAX }
-        ensures { (length : ℕ) (p : Port) → IsEngineOf length self.old p
-            → IsEngineOf length self.new (renewed moment (record (cleared p) { state = PortState.Uncalibrated })) }
+        ensures { (length : ℕ) (p : Port) → EngineRepresents length self.old p →
+            EngineRepresents length self.new
+            (with_receipt_renewed moment
+            (record (after_clearing p) { state = PortState.Uncalibrated })) }
     {
         self.clear();
         self.set_state(PortState::Uncalibrated);
@@ -113,8 +118,8 @@ impl PortEngine {
     )
         requires next { new ≡ next self.old.state cause new_parent }
         requires early { moment ≤ TICK_MAX }
-        ensures { (length : ℕ) (p : Port) → IsEngineOf length self.old p
-            → IsEngineOf length self.new (after_event moment steps cause new_parent p) }
+        ensures { (length : ℕ) (p : Port) → EngineRepresents length self.old p
+            → EngineRepresents length self.new (after_event moment steps cause new_parent p) }
     {
         if gets_parent(cause, new_parent, self.state) {
             self.follow_another(moment);

@@ -1,11 +1,11 @@
 ghost use Rattle.std.specs.Prelude.{◌≡◌, ◌≤◌, ◌+◌, ◌%◌, ◌≤ℤ◌, ℕ, ℤ, pos, [], ◌∷◌, ◌++◌, map, length, IsOk, IsSomeAnd, OnOk, OnErr};
-ghost use Rattle.ptp_base.specs.declared.number.TheConstants.{TICK_MAX, TIME_MAX};
-ghost use Rattle.ptp_profile.specs.Timers.{timer_at, with_timer};
-ghost use Rattle.ptp_profile.specs.Port.{Port, fired};
-ghost use Rattle.ptp_profile.specs.Wire.{written};
-ghost use Rattle.ptp_profile.specs.Frames.{timer_messages, announce_by, sync_by, follow_up_by, delay_request_by};
-ghost use Rattle.data_sets.specs.Masters.{master_in};
-ghost use Rattle.port_engine.specs.Engine.{IsEngineOf};
+ghost use Rattle.ptp_base.specs.declared.time.TheConstants.{TICK_MAX, TIME_MAX};
+ghost use Rattle.ptp_profile.specs.Port.PortTimers.{timer_at, with_timer};
+ghost use Rattle.ptp_profile.specs.Port.Port.{Port, after_firing};
+ghost use Rattle.ptp_profile.specs.Wire.MessageFormat.{message_octets};
+ghost use Rattle.ptp_profile.specs.Port.PortMessages.{timer_messages, announce_by, sync_by, follow_up_by, delay_request_by};
+ghost use Rattle.data_sets.specs.DataSetsView.{master_in};
+ghost use Rattle.port_engine.specs.EngineView.{EngineRepresents};
 
 use crate::engine::PortEngine;
 use crate::frames::Frames;
@@ -24,8 +24,8 @@ fn next_of(seq: u16) -> u16
 impl PortEngine {
     /// A timer that sends nothing is cleared.
     fn expire(&mut self, t: Timer)
-        ensures { (length : ℕ) (p : Port) → IsEngineOf length self.old p
-            → IsEngineOf length self.new (record p { timers = with_timer p.timers t None }) }
+        ensures { (length : ℕ) (p : Port) → EngineRepresents length self.old p
+            → EngineRepresents length self.new (record p { timers = with_timer p.timers t None }) }
     {
         self.timers.clear(t);
     }
@@ -34,11 +34,14 @@ impl PortEngine {
     fn send_announce(&mut self, tick: u64, d: &DataSets, frames: &mut Frames)
         requires early { tick ≤ TICK_MAX }
         requires room { 1 ≤ frames.old.spare }
-        ensures port { (length : ℕ) (p : Port) (seen : ℤ) → IsEngineOf length self.old p
-            → IsEngineOf length self.new (fired tick seen Timer.AnnounceSend p) }
-        ensures sent { (length : ℕ) (p : Port) → IsEngineOf length self.old p
-            → frames.new.items ≡ frames.old.items ++ written (announce_by d.now.domain (master_in d.now) p) ∷ [] }
-        ensures room { frames.new.spare + length frames.new.items ≡ frames.old.spare + length frames.old.items }
+        ensures port { (length : ℕ) (p : Port) (seen : ℤ) → EngineRepresents length self.old p
+            → EngineRepresents length self.new (after_firing tick seen Timer.AnnounceSend p) }
+        ensures sent { (length : ℕ) (p : Port) → EngineRepresents length self.old p →
+            frames.new.items
+            ≡ frames.old.items
+            ++ message_octets (announce_by d.now.domain (master_in d.now) p) ∷ [] }
+        ensures room { frames.new.spare + length frames.new.items
+            ≡ frames.old.spare + length frames.old.items }
     {
         let message = self.announce(d);
         frames.put(&message);
@@ -53,11 +56,15 @@ impl PortEngine {
         requires begun { pos 0 ≤ℤ seen }
         requires late { seen ≤ℤ TIME_MAX }
         requires room { 2 ≤ frames.old.spare }
-        ensures port { (length : ℕ) (p : Port) → IsEngineOf length self.old p
-            → IsEngineOf length self.new (fired tick seen Timer.SyncSend p) }
-        ensures sent { (length : ℕ) (p : Port) → IsEngineOf length self.old p
-            → frames.new.items ≡ frames.old.items ++ written (sync_by domain p) ∷ written (follow_up_by domain seen p) ∷ [] }
-        ensures room { frames.new.spare + length frames.new.items ≡ frames.old.spare + length frames.old.items }
+        ensures port { (length : ℕ) (p : Port) → EngineRepresents length self.old p
+            → EngineRepresents length self.new (after_firing tick seen Timer.SyncSend p) }
+        ensures sent { (length : ℕ) (p : Port) → EngineRepresents length self.old p →
+            frames.new.items
+            ≡ frames.old.items
+            ++ message_octets (sync_by domain p) ∷ message_octets (follow_up_by domain seen p)
+            ∷ [] }
+        ensures room { frames.new.spare + length frames.new.items
+            ≡ frames.old.spare + length frames.old.items }
     {
         let message = self.sync(domain);
         frames.put(&message);
@@ -73,11 +80,12 @@ impl PortEngine {
     fn send_delay_request(&mut self, tick: u64, seen: i64, domain: u8, frames: &mut Frames)
         requires early { tick ≤ TICK_MAX }
         requires room { 1 ≤ frames.old.spare }
-        ensures port { (length : ℕ) (p : Port) → IsEngineOf length self.old p
-            → IsEngineOf length self.new (fired tick seen Timer.DelayRequest p) }
-        ensures sent { (length : ℕ) (p : Port) → IsEngineOf length self.old p
-            → frames.new.items ≡ frames.old.items ++ written (delay_request_by domain p) ∷ [] }
-        ensures room { frames.new.spare + length frames.new.items ≡ frames.old.spare + length frames.old.items }
+        ensures port { (length : ℕ) (p : Port) → EngineRepresents length self.old p
+            → EngineRepresents length self.new (after_firing tick seen Timer.DelayRequest p) }
+        ensures sent { (length : ℕ) (p : Port) → EngineRepresents length self.old p →
+            frames.new.items ≡ frames.old.items ++ message_octets (delay_request_by domain p) ∷ [] }
+        ensures room { frames.new.spare + length frames.new.items
+            ≡ frames.old.spare + length frames.old.items }
     {
         let message = self.delay_request(domain);
         frames.put(&message);
@@ -94,10 +102,14 @@ impl PortEngine {
         requires begun { pos 0 ≤ℤ seen }
         requires late { seen ≤ℤ TIME_MAX }
         requires room { 2 ≤ frames.old.spare }
-        ensures port { (length : ℕ) (p : Port) → IsEngineOf length self.old p → IsEngineOf length self.new (fired tick seen t p) }
-        ensures sent { (length : ℕ) (p : Port) → IsEngineOf length self.old p
-            → frames.new.items ≡ frames.old.items ++ map written (timer_messages d.now.domain (master_in d.now) seen t p) }
-        ensures room { frames.new.spare + length frames.new.items ≡ frames.old.spare + length frames.old.items }
+        ensures port { (length : ℕ) (p : Port) → EngineRepresents length self.old p →
+            EngineRepresents length self.new (after_firing tick seen t p) }
+        ensures sent { (length : ℕ) (p : Port) → EngineRepresents length self.old p →
+            frames.new.items
+            ≡ frames.old.items
+            ++ map message_octets (timer_messages d.now.domain (master_in d.now) seen t p) }
+        ensures room { frames.new.spare + length frames.new.items
+            ≡ frames.old.spare + length frames.old.items }
     {
         match t {
             Timer::AnnounceReceipt => self.expire(Timer::AnnounceReceipt),
@@ -121,16 +133,23 @@ impl PortEngine {
         requires set { IsSomeAnd (timer_at self.old.timers t) (λ tick. tick ≤ TICK_MAX) }
         requires begun { pos 0 ≤ℤ seen }
         requires late { seen ≤ℤ TIME_MAX }
-        ensures port { (length : ℕ) (p : Port) (tick : ℕ) → IsEngineOf length self.old p → timer_at p.timers t ≡ Some tick
-            → OnOk result (IsEngineOf length self.new (fired tick seen t p)) }
-        ensures sent { (length : ℕ) (p : Port) → IsEngineOf length self.old p
-            → OnOk result (frames.new.items ≡ frames.old.items ++ map written (timer_messages d.now.domain (master_in d.now) seen t p)) }
+        ensures port { (length : ℕ) (p : Port) (tick : ℕ) → EngineRepresents length self.old p →
+            timer_at p.timers t ≡ Some tick →
+            OnOk result (EngineRepresents length self.new (after_firing tick seen t p)) }
+        ensures sent { (length : ℕ) (p : Port) → EngineRepresents length self.old p →
+            OnOk result
+            (frames.new.items
+            ≡ frames.old.items
+            ++ map message_octets
+            (timer_messages d.now.domain (master_in d.now) seen t p)) }
         ensures same { OnErr result (self.new ≡ self.old) }
         ensures same_frames { OnErr result (frames.new ≡ frames.old) }
 
         // Where two frames are reserved, nothing is allocated, and each frame takes one of their places.
         ensures succeeds { 2 ≤ frames.old.spare → IsOk result }
-        ensures room { 2 ≤ frames.old.spare → frames.new.spare + length frames.new.items ≡ frames.old.spare + length frames.old.items }
+        ensures room { 2 ≤ frames.old.spare →
+            frames.new.spare + length frames.new.items
+            ≡ frames.old.spare + length frames.old.items }
     {
         match self.timers.at(t) {
             None => unreachable!(),

@@ -1,7 +1,7 @@
 ghost use Rattle.std.specs.Prelude.{◌≡◌, ℕ, ◌<◌, ◌≤◌, ◌+◌, ◌-◌, [], ◌∷◌, ◌++◌, OnOk, OnErr, IsOk};
-ghost use Rattle.ptp_profile.specs.Wire.{IsSpelled, written};
+ghost use Rattle.ptp_profile.specs.Wire.MessageFormat.{IsSpelled, message_octets};
 
-use crate::blanks::Blanks;
+use crate::blank_frames::Blanks;
 use ptp_base::{Items, NoMemory, Octets};
 use ptp_wire::{Message, encode_reserved};
 use std::alloc::Global;
@@ -25,7 +25,7 @@ impl Model for Frames {
 
     ghost coded = { reserved_code (coded_list coded_ℕ) };
 
-    ghost use Rattle.port_engine.specs.Blanks.{AreBlank, count_of};
+    ghost use Rattle.port_engine.specs.BlankFrames.{AreBlank, count_of};
 
     ghost view = { λ f. record { items = f.sent.items; spare = count_of f.blanks } };
 
@@ -82,7 +82,8 @@ impl Frames {
 
     /// Adds one element at the end, or leaves the list as before. The room stays as it was.
     pub fn push(&mut self, item: Octets) -> Result<(), NoMemory>
-        ensures ok { OnOk result (self.new ≡ record self.old { items = self.old.items ++ item ∷ [] }) }
+        ensures ok { OnOk result
+            (self.new ≡ record self.old { items = self.old.items ++ item ∷ [] }) }
         ensures err { OnErr result (self.new ≡ self.old) }
     {
         self.sent.reserve(self.blanks.count() + 1)?;
@@ -94,7 +95,11 @@ impl Frames {
     pub(crate) fn put(&mut self, m: &Message)
         requires fits { IsSpelled m.now }
         requires room { 0 < self.old.spare }
-        ensures { self.new ≡ record { items = self.old.items ++ written m.now ∷ []; spare = self.old.spare - 1 } }
+        ensures { self.new
+            ≡ record {
+              items = self.old.items ++ message_octets m.now ∷ [];
+              spare = self.old.spare - 1;
+            } }
     {
         let mut frame = self.blanks.take();
         encode_reserved(m, &mut frame);

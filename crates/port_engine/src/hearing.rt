@@ -1,12 +1,12 @@
 ghost use Rattle.std.specs.Prelude.{◌≡◌, ◌==◌, true, not, bit_and, ◌≤◌, ◌+◌, ◌≤ℤ◌, ℕ, ℤ, pos, ◌++◌, length, option_and_then, IfOk, IfSome, IsOk, OnErr, if◌then◌else◌};
-ghost use Rattle.ptp_base.specs.declared.number.TheConstants.{TIME_MAX};
+ghost use Rattle.ptp_base.specs.declared.time.TheConstants.{TIME_MAX};
 ghost use Rattle.ptp_base.specs.declared.identity.PortId.{PortId};
-ghost use Rattle.ptp_profile.specs.Machine.{is_master};
-ghost use Rattle.ptp_profile.specs.Sync.{measure_of, mean_of};
-ghost use Rattle.ptp_profile.specs.Port.{Port, takes_from, triple_of, with_piece, paired_fate, response_fate, answered_by, timing_fate, timing_measure, after_timing};
-ghost use Rattle.ptp_profile.specs.Frames.{delay_response_by};
-ghost use Rattle.delay_mech.specs.Memory.{IsCorrection};
-ghost use Rattle.port_engine.specs.Engine.{IsEngineOf, frames_for, newest};
+ghost use Rattle.ptp_profile.specs.Port.PortStates.{is_master};
+ghost use Rattle.ptp_profile.specs.Timing.OffsetAndDelay.{measure_of, mean_of};
+ghost use Rattle.ptp_profile.specs.Port.Port.{Port, takes_from, triple_of, with_piece, paired_fate, response_fate, request_answered_by, timing_fate, timing_measure, after_timing};
+ghost use Rattle.ptp_profile.specs.Port.PortMessages.{delay_response_by};
+ghost use Rattle.delay_mech.specs.DelaysView.{IsCorrection};
+ghost use Rattle.port_engine.specs.EngineView.{EngineRepresents, frames_for, newest};
 
 use crate::engine::PortEngine;
 use crate::entering::is_following;
@@ -35,7 +35,8 @@ fn is_two_step(m: &Message) -> bool
 impl PortEngine {
     /// The port follows, and the sender is its parent.
     fn takes_from(&self, parent: PortId, sender: PortId) -> bool
-        ensures { (length : ℕ) (p : Port) → IsEngineOf length self.now p → result ≡ takes_from parent sender p }
+        ensures { (length : ℕ) (p : Port) → EngineRepresents length self.now p →
+            result ≡ takes_from parent sender p }
     {
         is_following(self.state) && sender == parent
     }
@@ -43,7 +44,8 @@ impl PortEngine {
     /// What a Sync and its origin show, once there is a mean delay (IEEE 1588-2019, 11.2).
     fn measure(&self, t: &Triple) -> Option<Measure>
         requires { IsCorrection t.now.correction }
-        ensures { (length : ℕ) (p : Port) → IsEngineOf length self.now p → result ≡ measure_of t.now (mean_of length p.delays) }
+        ensures { (length : ℕ) (p : Port) → EngineRepresents length self.now p →
+            result ≡ measure_of t.now (mean_of length p.delays) }
     {
         match self.delays.mean() {
             None => None,
@@ -59,10 +61,10 @@ impl PortEngine {
     fn judge(&mut self, found: &Option<Triple>) -> (Fate, Option<Measure>)
         requires { IfSome found.now (λ t. IsCorrection t.correction) }
         ensures fate { result.0 ≡ paired_fate found.now }
-        ensures measure { (length : ℕ) (p : Port) → IsEngineOf length self.old p
+        ensures measure { (length : ℕ) (p : Port) → EngineRepresents length self.old p
             → result.1 ≡ option_and_then (λ t. measure_of t (mean_of length p.delays)) found.now }
-        ensures port { (length : ℕ) (p : Port) → IsEngineOf length self.old p
-            → IsEngineOf length self.new (record p { triple = newest found.now p.triple }) }
+        ensures port { (length : ℕ) (p : Port) → EngineRepresents length self.old p
+            → EngineRepresents length self.new (record p { triple = newest found.now p.triple }) }
     {
         match found {
             None => (Fate::Waiting, None),
@@ -77,8 +79,10 @@ impl PortEngine {
     fn keep_sync(&mut self, m: &Message, origin: &i64, seen: i64) -> Option<Triple>
         requires { m.now.body ≡ Body.Sync origin.now }
         ensures small { IfSome result (λ t. IsCorrection t.correction) }
-        ensures found { (length : ℕ) (p : Port) → IsEngineOf length self.old p → result ≡ triple_of m.now seen p }
-        ensures port { (length : ℕ) (p : Port) → IsEngineOf length self.old p → IsEngineOf length self.new (with_piece m.now seen p) }
+        ensures found { (length : ℕ) (p : Port) → EngineRepresents length self.old p →
+            result ≡ triple_of m.now seen p }
+        ensures port { (length : ℕ) (p : Port) → EngineRepresents length self.old p →
+            EngineRepresents length self.new (with_piece m.now seen p) }
     {
         let two_step = is_two_step(m);
         self.pairing
@@ -88,19 +92,25 @@ impl PortEngine {
     fn keep_follow_up(&mut self, m: &Message, precise: &i64) -> Option<Triple>
         requires { m.now.body ≡ Body.FollowUp precise.now }
         ensures small { IfSome result (λ t. IsCorrection t.correction) }
-        ensures found { (length : ℕ) (p : Port) (seen : ℤ) → IsEngineOf length self.old p → result ≡ triple_of m.now seen p }
-        ensures port { (length : ℕ) (p : Port) (seen : ℤ) → IsEngineOf length self.old p → IsEngineOf length self.new (with_piece m.now seen p) }
+        ensures found { (length : ℕ) (p : Port) (seen : ℤ) → EngineRepresents length self.old p →
+            result ≡ triple_of m.now seen p }
+        ensures port { (length : ℕ) (p : Port) (seen : ℤ) → EngineRepresents length self.old p →
+            EngineRepresents length self.new (with_piece m.now seen p) }
     {
         self.pairing.follow_up(m.seq, *precise, m.correction)
     }
 
     fn take_sync(&mut self, m: &Message, origin: &i64, seen: i64) -> (Fate, Option<Measure>)
         requires { m.now.body ≡ Body.Sync origin.now }
-        ensures fate { (length : ℕ) (p : Port) → IsEngineOf length self.old p → result.0 ≡ paired_fate (triple_of m.now seen p) }
-        ensures told { (length : ℕ) (p : Port) (parent : PortId) → IsEngineOf length self.old p → takes_from parent m.now.sender p ≡ true
-            → result.0 ≡ timing_fate parent m.now seen p m.now.body }
-        ensures measure { (length : ℕ) (p : Port) → IsEngineOf length self.old p → result.1 ≡ timing_measure length m.now seen result.0 p }
-        ensures port { (length : ℕ) (p : Port) → IsEngineOf length self.old p → IsEngineOf length self.new (after_timing m.now seen result.0 p) }
+        ensures fate { (length : ℕ) (p : Port) → EngineRepresents length self.old p →
+            result.0 ≡ paired_fate (triple_of m.now seen p) }
+        ensures told { (length : ℕ) (p : Port) (parent : PortId) →
+            EngineRepresents length self.old p → takes_from parent m.now.sender p ≡ true →
+            result.0 ≡ timing_fate parent m.now seen p m.now.body }
+        ensures measure { (length : ℕ) (p : Port) → EngineRepresents length self.old p →
+            result.1 ≡ timing_measure length m.now seen result.0 p }
+        ensures port { (length : ℕ) (p : Port) → EngineRepresents length self.old p →
+            EngineRepresents length self.new (after_timing m.now seen result.0 p) }
     {
         let found = self.keep_sync(m, origin, seen);
         self.judge(&found)
@@ -108,11 +118,15 @@ impl PortEngine {
 
     fn take_follow_up(&mut self, m: &Message, precise: &i64, seen: i64) -> (Fate, Option<Measure>)
         requires { m.now.body ≡ Body.FollowUp precise.now }
-        ensures fate { (length : ℕ) (p : Port) → IsEngineOf length self.old p → result.0 ≡ paired_fate (triple_of m.now seen p) }
-        ensures told { (length : ℕ) (p : Port) (parent : PortId) → IsEngineOf length self.old p → takes_from parent m.now.sender p ≡ true
-            → result.0 ≡ timing_fate parent m.now seen p m.now.body }
-        ensures measure { (length : ℕ) (p : Port) → IsEngineOf length self.old p → result.1 ≡ timing_measure length m.now seen result.0 p }
-        ensures port { (length : ℕ) (p : Port) → IsEngineOf length self.old p → IsEngineOf length self.new (after_timing m.now seen result.0 p) }
+        ensures fate { (length : ℕ) (p : Port) → EngineRepresents length self.old p →
+            result.0 ≡ paired_fate (triple_of m.now seen p) }
+        ensures told { (length : ℕ) (p : Port) (parent : PortId) →
+            EngineRepresents length self.old p → takes_from parent m.now.sender p ≡ true →
+            result.0 ≡ timing_fate parent m.now seen p m.now.body }
+        ensures measure { (length : ℕ) (p : Port) → EngineRepresents length self.old p →
+            result.1 ≡ timing_measure length m.now seen result.0 p }
+        ensures port { (length : ℕ) (p : Port) → EngineRepresents length self.old p →
+            EngineRepresents length self.new (after_timing m.now seen result.0 p) }
     {
         let found = self.keep_follow_up(m, precise);
         self.judge(&found)
@@ -120,11 +134,15 @@ impl PortEngine {
 
     fn take_response(&mut self, m: &Message, receive: &i64, requesting: &PortId) -> Fate
         requires { m.now.body ≡ Body.DelayResp receive.now requesting.now }
-        ensures fate { (length : ℕ) (p : Port) → IsEngineOf length self.old p → result ≡ response_fate (answered_by m.now m.now.body p) }
-        ensures told { (length : ℕ) (p : Port) (parent : PortId) (seen : ℤ) → IsEngineOf length self.old p → takes_from parent m.now.sender p ≡ true
-            → result ≡ timing_fate parent m.now seen p m.now.body }
-        ensures port { (length : ℕ) (p : Port) (seen : ℤ) → IsEngineOf length self.old p → IsEngineOf length self.new (after_timing m.now seen result p) }
-        ensures measure { (length : ℕ) (p : Port) (seen : ℤ) → timing_measure length m.now seen result p ≡ None }
+        ensures fate { (length : ℕ) (p : Port) → EngineRepresents length self.old p →
+            result ≡ response_fate (request_answered_by m.now m.now.body p) }
+        ensures told { (length : ℕ) (p : Port) (parent : PortId) (seen : ℤ) →
+            EngineRepresents length self.old p → takes_from parent m.now.sender p ≡ true →
+            result ≡ timing_fate parent m.now seen p m.now.body }
+        ensures port { (length : ℕ) (p : Port) (seen : ℤ) → EngineRepresents length self.old p →
+            EngineRepresents length self.new (after_timing m.now seen result p) }
+        ensures measure { (length : ℕ) (p : Port) (seen : ℤ) →
+            timing_measure length m.now seen result p ≡ None }
     {
         match self
             .delays
@@ -139,12 +157,20 @@ impl PortEngine {
     fn answer(&self, request: &Message, seen: i64, frames: &mut Frames) -> Result<Fate, NoMemory>
         requires early { pos 0 ≤ℤ seen }
         requires late { seen ≤ℤ TIME_MAX }
-        ensures fate { IfOk result (λ fate. fate ≡ (if is_master self.now.state then Fate.Answered else Fate.Ignored)) }
-        ensures sent { (length : ℕ) (p : Port) → IsEngineOf length self.now p
-            → IfOk result (λ fate. frames.new.items ≡ frames.old.items ++ frames_for fate (delay_response_by request.now.domain seen request.now p)) }
+        ensures fate { IfOk result
+            (λ fate. fate ≡ (if is_master self.now.state then Fate.Answered else Fate.Ignored)) }
+        ensures sent { (length : ℕ) (p : Port) → EngineRepresents length self.now p →
+            IfOk result
+            (λ fate.
+            frames.new.items
+            ≡ frames.old.items
+            ++ frames_for fate
+            (delay_response_by request.now.domain seen request.now p)) }
         ensures same_frames { OnErr result (frames.new ≡ frames.old) }
         ensures succeeds { 2 ≤ frames.old.spare → IsOk result }
-        ensures room { 2 ≤ frames.old.spare → frames.new.spare + length frames.new.items ≡ frames.old.spare + length frames.old.items }
+        ensures room { 2 ≤ frames.old.spare →
+            frames.new.spare + length frames.new.items
+            ≡ frames.old.spare + length frames.old.items }
     {
         if !is_master(self.state) {
             return Ok(Fate::Ignored);
@@ -169,20 +195,26 @@ impl PortEngine {
     ) -> Result<(Fate, Option<Measure>), NoMemory>
         requires early { pos 0 ≤ℤ seen }
         requires late { seen ≤ℤ TIME_MAX }
-        ensures fate { (length : ℕ) (p : Port) → IsEngineOf length self.old p
+        ensures fate { (length : ℕ) (p : Port) → EngineRepresents length self.old p
             → IfOk result (λ r. r.0 ≡ timing_fate parent m.now seen p m.now.body) }
-        ensures measure { (length : ℕ) (p : Port) → IsEngineOf length self.old p
+        ensures measure { (length : ℕ) (p : Port) → EngineRepresents length self.old p
             → IfOk result (λ r. r.1 ≡ timing_measure length m.now seen r.0 p) }
-        ensures port { (length : ℕ) (p : Port) → IsEngineOf length self.old p
-            → IfOk result (λ r. IsEngineOf length self.new (after_timing m.now seen r.0 p)) }
-        ensures sent { (length : ℕ) (p : Port) → IsEngineOf length self.old p
-            → IfOk result (λ r. frames.new.items ≡ frames.old.items ++ frames_for r.0 (delay_response_by m.now.domain seen m.now p)) }
+        ensures port { (length : ℕ) (p : Port) → EngineRepresents length self.old p
+            → IfOk result (λ r. EngineRepresents length self.new (after_timing m.now seen r.0 p)) }
+        ensures sent { (length : ℕ) (p : Port) → EngineRepresents length self.old p →
+            IfOk result
+            (λ r.
+            frames.new.items
+            ≡ frames.old.items
+            ++ frames_for r.0 (delay_response_by m.now.domain seen m.now p)) }
         ensures same { OnErr result (self.new ≡ self.old) }
         ensures same_frames { OnErr result (frames.new ≡ frames.old) }
 
         // Where two frames are reserved, nothing is allocated, and each frame takes one of their places.
         ensures succeeds { 2 ≤ frames.old.spare → IsOk result }
-        ensures room { 2 ≤ frames.old.spare → frames.new.spare + length frames.new.items ≡ frames.old.spare + length frames.old.items }
+        ensures room { 2 ≤ frames.old.spare →
+            frames.new.spare + length frames.new.items
+            ≡ frames.old.spare + length frames.old.items }
     {
         match &m.body {
             Body::DelayReq { .. } => Ok((self.answer(m, seen, frames)?, None)),

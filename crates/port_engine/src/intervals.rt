@@ -1,8 +1,8 @@
 ghost use Rattle.std.specs.Prelude.{◌≡◌, ◌≤◌, ◌*◌};
 ghost use Rattle.ptp_base.specs.Floor.{interval_of};
-ghost use Rattle.ptp_base.specs.declared.number.TheConstants.{TICK_MAX};
-ghost use Rattle.ptp_profile.specs.Timers.{receipt_time, qualification_of, waiting_timers, sending_timers, following_timers, qualifying_timers};
-ghost use Rattle.port_engine.specs.Conf.{IsInterval, HasIntervals};
+ghost use Rattle.ptp_base.specs.declared.time.TheConstants.{TICK_MAX};
+ghost use Rattle.ptp_profile.specs.Port.PortTimers.{receipt_time, qualification_of, waiting_timers, sending_timers, following_timers, qualifying_timers};
+ghost use Rattle.port_engine.specs.PortIntervals.{IsInterval, HasIntervals};
 
 use port_fsm::{PortEvent, Timer, Timers};
 use ptp_base::{Code, PortConf, interval};

@@ -2,7 +2,7 @@
 //! of the clocks that follow it (IEEE 1588-2019, 9.2, 9.5 and 11.3).
 #![tactic(auto)]
 
-mod blanks;
+mod blank_frames;
 mod engine;
 mod entering;
 mod firing;

@@ -1,10 +1,10 @@
 ghost use Rattle.std.specs.Prelude.{◌≡◌, ◌≤ℤ◌, ℕ, pos};
-ghost use Rattle.ptp_base.specs.declared.number.TheConstants.{TIME_MAX};
-ghost use Rattle.ptp_profile.specs.Port.{Port};
-ghost use Rattle.ptp_profile.specs.Wire.{IsSpelled};
-ghost use Rattle.ptp_profile.specs.Frames.{announce_by, sync_by, follow_up_by, delay_request_by, delay_response_by};
-ghost use Rattle.data_sets.specs.Masters.{master_in};
-ghost use Rattle.port_engine.specs.Engine.{IsEngineOf};
+ghost use Rattle.ptp_base.specs.declared.time.TheConstants.{TIME_MAX};
+ghost use Rattle.ptp_profile.specs.Port.Port.{Port};
+ghost use Rattle.ptp_profile.specs.Wire.MessageFormat.{IsSpelled};
+ghost use Rattle.ptp_profile.specs.Port.PortMessages.{announce_by, sync_by, follow_up_by, delay_request_by, delay_response_by};
+ghost use Rattle.data_sets.specs.DataSetsView.{master_in};
+ghost use Rattle.port_engine.specs.EngineView.{EngineRepresents};
 
 use crate::engine::PortEngine;
 use data_sets::DataSets;
@@ -17,7 +17,8 @@ impl PortEngine {
     /// An Announce, which says what the data sets say (IEEE 1588-2019, 9.5.8); of the flags the low six
     /// are those of the time properties (13.3.2.8).
     pub(crate) fn announce(&self, d: &DataSets) -> Message
-        ensures exact { (length : ℕ) (p : Port) → IsEngineOf length self.now p → result ≡ announce_by d.now.domain (master_in d.now) p }
+        ensures exact { (length : ℕ) (p : Port) → EngineRepresents length self.now p →
+            result ≡ announce_by d.now.domain (master_in d.now) p }
         ensures fits { IsSpelled result }
     {
         Message {
@@ -42,7 +43,8 @@ impl PortEngine {
 
     /// A Sync, which says that its Follow_Up has the time (IEEE 1588-2019, 9.5.9).
     pub(crate) fn sync(&self, domain: u8) -> Message
-        ensures exact { (length : ℕ) (p : Port) → IsEngineOf length self.now p → result ≡ sync_by domain p }
+        ensures exact { (length : ℕ) (p : Port) → EngineRepresents length self.now p →
+            result ≡ sync_by domain p }
         ensures fits { IsSpelled result }
     {
         Message {
@@ -60,7 +62,8 @@ impl PortEngine {
     pub(crate) fn follow_up(&self, domain: u8, seen: i64) -> Message
         requires early { pos 0 ≤ℤ seen }
         requires late { seen ≤ℤ TIME_MAX }
-        ensures exact { (length : ℕ) (p : Port) → IsEngineOf length self.now p → result ≡ follow_up_by domain seen p }
+        ensures exact { (length : ℕ) (p : Port) → EngineRepresents length self.now p →
+            result ≡ follow_up_by domain seen p }
         ensures fits { IsSpelled result }
     {
         Message {
@@ -76,7 +79,8 @@ impl PortEngine {
 
     /// A Delay_Req (IEEE 1588-2019, 9.5.11), with the interval 0x7F (13.3.2.14).
     pub(crate) fn delay_request(&self, domain: u8) -> Message
-        ensures exact { (length : ℕ) (p : Port) → IsEngineOf length self.now p → result ≡ delay_request_by domain p }
+        ensures exact { (length : ℕ) (p : Port) → EngineRepresents length self.now p →
+            result ≡ delay_request_by domain p }
         ensures fits { IsSpelled result }
     {
         Message {
@@ -95,7 +99,7 @@ impl PortEngine {
     pub(crate) fn delay_response(&self, request: &Message, seen: i64) -> Message
         requires early { pos 0 ≤ℤ seen }
         requires late { seen ≤ℤ TIME_MAX }
-        ensures exact { (length : ℕ) (p : Port) → IsEngineOf length self.now p
+        ensures exact { (length : ℕ) (p : Port) → EngineRepresents length self.now p
             → result ≡ delay_response_by request.now.domain seen request.now p }
         ensures fits { IsSpelled result }
     {

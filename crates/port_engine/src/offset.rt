@@ -1,9 +1,8 @@
 ghost use Rattle.std.specs.Prelude.{◌≡◌};
-ghost use Rattle.delay_mech.specs.Memory.{IsCorrection, IsDelay};
-ghost use Rattle.ptp_profile.specs.Sync.{offset_of};
+ghost use Rattle.delay_mech.specs.DelaysView.{IsCorrection, IsDelay};
+ghost use Rattle.ptp_profile.specs.Timing.OffsetAndDelay.{offset_of};
 
-use delay_mech::{less, passed};
-use ptp_base::{Scaled, Triple};
+use ptp_base::{Scaled, Triple, time_between};
 
 /// The offset from the master (IEEE 1588-2019, 11.2) with a mean delay, both in ns times 65,536.
 pub(crate) fn offset(t: &Triple, mean: Scaled) -> Scaled
@@ -11,5 +10,5 @@ pub(crate) fn offset(t: &Triple, mean: Scaled) -> Scaled
     requires mean { IsDelay mean }
     ensures { result ≡ offset_of t.now mean }
 {
-    less(less(passed(t.origin, t.arrived), mean), t.correction)
+    time_between(t.origin, t.arrived) - mean - t.correction
 }

@@ -1,5 +1,5 @@
 ghost use Rattle.std.specs.Prelude.{◌≤◌};
-ghost use Rattle.ptp_base.specs.declared.number.TheConstants.{TICK_MAX};
+ghost use Rattle.ptp_base.specs.declared.time.TheConstants.{TICK_MAX};
 
 use crate::*;
 use data_sets::DataSets;

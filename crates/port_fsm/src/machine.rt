@@ -1,5 +1,5 @@
 ghost use Rattle.std.specs.Prelude.{◌≡◌, Bool};
-ghost use Rattle.ptp_profile.specs.Machine.{next};
+ghost use Rattle.ptp_profile.specs.Port.PortStates.{next};
 
 use ptp_base::{Code, PortState};
 use ptp_profile::PortEvent;
@@ -133,7 +133,7 @@ fn from_slave(e: PortEvent, new_parent: bool) -> PortState
 /// The state of a port after an event (IEEE 1588-2019, 9.2.5, figure 30). `new_parent` says that
 /// the best announcement comes from another sender than the port's parent. No event leads to
 /// INITIALIZING or DISABLED, and none changes them; FAULT_CLEARED leads from FAULTY straight to
-/// LISTENING (own). Does not allocate.
+/// LISTENING (project). Does not allocate.
 pub fn next(s: PortState, e: PortEvent, new_parent: bool) -> PortState
     ensures { result ≡ next s e new_parent }
 {

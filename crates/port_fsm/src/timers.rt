@@ -1,7 +1,7 @@
 ghost use Rattle.std.specs.Prelude.{◌≡◌, ◌≤◌, ◌↔◌, ℕ, Some, None, IfSome};
 ghost use Rattle.ptp_base.specs.Least.{lesser};
-ghost use Rattle.ptp_profile.specs.declared.port.Timer.{Timer};
-ghost use Rattle.ptp_profile.specs.Timers.{no_timers, timer_at, with_timer, due_of};
+ghost use Rattle.ptp_profile.specs.declared.port_event.Timer.{Timer};
+ghost use Rattle.ptp_profile.specs.Port.PortTimers.{no_timers, timer_at, with_timer, due_of};
 
 use ptp_profile::Timer;
 use std::marker::Model;
@@ -18,7 +18,7 @@ pub struct Timers {
 }
 
 impl Model for Timers {
-    ghost use Rattle.ptp_profile.specs.Timers.{Timers};
+    ghost use Rattle.ptp_profile.specs.Port.PortTimers.{Timers};
 
     ghost Value = { Timers };
 
@@ -27,7 +27,7 @@ impl Model for Timers {
     ghost inverse = { λ t. record { receipt = t.receipt; qualification = t.qualification; announce = t.announce; sync = t.sync; delay = t.delay } };
 }
 
-/// All timers, in the order in which they go at one moment (own).
+/// All timers, in the order in which they go at one moment (project).
 const ALL: [Timer; 5] = [
     Timer::AnnounceReceipt,
     Timer::Qualification,
@@ -101,11 +101,12 @@ impl Timers {
     }
 
     /// The timer that is due first, with its moment in ticks (ns): the least moment, and of equal
-    /// moments the first in the order of `Timer` (own). None where no timer is set.
+    /// moments the first in the order of `Timer` (project). None where no timer is set.
     pub fn due(&self) -> Option<(u64, Timer)>
         ensures due { result ≡ due_of self.now }
         ensures set { IfSome result (λ due. timer_at self.now due.1 ≡ Some due.0) }
-        ensures least { IfSome result (λ due. (t : Timer) (at : ℕ) → timer_at self.now t ≡ Some at → due.0 ≤ at) }
+        ensures least { IfSome result
+            (λ due. (t : Timer) (at : ℕ) → timer_at self.now t ≡ Some at → due.0 ≤ at) }
         ensures none { result ≡ None ↔ ((t : Timer) → timer_at self.now t ≡ None) }
     {
         let mut due = None;

@@ -1,1 +1,1 @@
-pub mod Generations
+pub mod Generation

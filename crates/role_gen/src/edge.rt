@@ -1,11 +1,11 @@
 ghost use Rattle.std.specs.Prelude.{◌≡◌, ℕ, ◌<◌, ◌≤◌, ◌==◌, ◌&&◌, All, find, length};
 ghost use Rattle.std.specs.List.{position_from, zip};
 ghost use Rattle.ptp_base.specs.declared.limits.TheConstants.{CLOCKS_MAX, PORTS_MAX};
-ghost use Rattle.ptp_base.specs.declared.port.PortState.{PortState};
-ghost use Rattle.ptp_profile.specs.Machine.{is_following, is_slave};
-ghost use Rattle.ptp_profile.specs.Roles.{edge_by, edges_of, port_on, slave_clock, ctrls_of};
-ghost use Rattle.ptp_profile.specs.Forest.{IsForest};
-ghost use Rattle.role_gen.specs.Generations.{HaveCtrls};
+ghost use Rattle.ptp_base.specs.declared.port_state.PortState.{PortState};
+ghost use Rattle.ptp_profile.specs.Port.PortStates.{is_following, is_slave};
+ghost use Rattle.ptp_profile.specs.Roles.Edges.{edge_by, edges_of, port_on, slave_clock, ctrls_of};
+ghost use Rattle.ptp_profile.specs.Roles.Forest.{IsForest};
+ghost use Rattle.role_gen.specs.Generation.{HaveCtrls};
 
 use ptp_base::{PortId, PortState};
 use ptp_profile::{Edge, edges_make_a_forest};
@@ -26,7 +26,9 @@ fn is_slave(state: PortState) -> bool
 
 /// The place of the port that follows on the clock.
 fn place_on(clock: u8, states: &[PortState], map: &[u8]) -> Option<usize>
-    ensures { result ≡ position_from (λ (p : PortState × ℕ). is_following p.0 && (p.1 == clock)) 0 (zip states.now map.now) }
+    ensures { result
+        ≡ position_from (λ (p : PortState × ℕ). is_following p.0 && (p.1 == clock)) 0
+        (zip states.now map.now) }
 {
     states
         .iter()
@@ -79,7 +81,7 @@ fn edge_by(parent: PortId, port: Option<u8>, source: Option<u8>) -> Option<Edge>
 
 /// Writes what drives each clock: the port of it in UNCALIBRATED or SLAVE, which follows `parent`,
 /// else, where some port is in SLAVE, the follower that copies the clock of that port, else nothing
-/// (own). `states` and `map` are of the ports by rising number; `map` says on which clock each stands.
+/// (project). `states` and `map` are of the ports by rising number; `map` says on which clock each stands.
 /// There are at most `PORTS_MAX` ports and `CLOCKS_MAX` clocks, and each clock of `map` has a place in
 /// `out`. Does not allocate.
 pub fn edges(states: &[PortState], map: &[u8], parent: PortId, out: &mut [Option<Edge>])

@@ -1,7 +1,7 @@
-ghost use Rattle.std.specs.Prelude.{◌≡◌, ℕ, ◌+◌, ◌<◌, ◌↔◌, IsTrue, IfOk, IfSome, None, length};
+ghost use Rattle.std.specs.Prelude.{◌≡◌, ◌+◌, ◌<◌, ◌↔◌, IsTrue, IfOk, IfSome, None, length};
 ghost use Rattle.ptp_base.specs.declared.limits.TheConstants.{GENERATION_MAX};
-ghost use Rattle.ptp_profile.specs.Roles.{are_same_edges, is_same_edge};
-ghost use Rattle.role_gen.specs.Generations.{Generation, no_generation};
+ghost use Rattle.ptp_profile.specs.Roles.Edges.{are_same_edges, is_same_edge};
+ghost use Rattle.role_gen.specs.Generation.{Generation, no_generation};
 
 use ptp_base::NoMemory;
 use ptp_profile::Edge;
@@ -37,7 +37,7 @@ pub struct Generations {
 }
 
 impl Model for Generations {
-    ghost use Rattle.role_gen.specs.Generations.{Generation};
+    ghost use Rattle.role_gen.specs.Generation.{Generation};
 
     ghost Value = { Generation };
 
@@ -78,7 +78,8 @@ impl Generations {
         ensures none { (result ≡ None) ↔ IsTrue (are_same_edges self.old.edges new.now) }
         ensures same { result ≡ None → self.new ≡ self.old }
         ensures next { IfSome result (λ gener. gener ≡ self.old.gener + 1) }
-        ensures begun { IfSome result (λ gener. self.new ≡ record { gener = gener; edges = new.now }) }
+        ensures begun { IfSome result
+            (λ gener. self.new ≡ record { gener = gener; edges = new.now }) }
     {
         if are_same(self.edges.as_slice(), new) {
             return None;

@@ -1,9 +1,9 @@
-ghost use Rattle.std.specs.Prelude.{◌≡◌, ℕ, ◌+◌, ◌*◌, ◌<◌, ◌≤◌, ◌⊎◌, ◌++◌, drop, take, length, if◌then◌else◌, List, []};
+ghost use Rattle.std.specs.Prelude.{◌≡◌, ℕ, ◌+◌, ◌*◌, ◌<◌, ◌≤◌, ◌⊎◌, ◌++◌, drop, take, length, if◌then◌else◌, []};
 ghost use Rattle.std.specs.Option.{option_to_list};
 ghost use Rattle.ptp_base.specs.declared.limits.TheConstants.{CLOCKS_MAX};
-ghost use Rattle.ptp_profile.specs.Roles.{is_same_edge, revoke, revokes, grant, grants, orders_of, ctrls_of};
-ghost use Rattle.ptp_profile.specs.Forest.{IsForest, IsPart, ctrls_after};
-ghost use Rattle.role_gen.specs.Generations.{HaveCtrls, HasCtrlIfAny};
+ghost use Rattle.ptp_profile.specs.Roles.Edges.{is_same_edge, revoke, revokes, grant, grants, orders_of, ctrls_of};
+ghost use Rattle.ptp_profile.specs.Roles.Forest.{IsForest, IsPart, ctrls_after};
+ghost use Rattle.role_gen.specs.Generation.{HaveCtrls, HasCtrlIfAny};
 
 use ptp_profile::{
     Edge, RoleOrder, orders_lead_to_the_new_edges, orders_leave_forests, orders_leave_parts,
@@ -11,7 +11,8 @@ use ptp_profile::{
 
 /// The order that takes a clock from whom its old edge names, where the edge changed.
 fn revoked(gener: u32, clock: u8, old: &Option<Edge>, new: &Option<Edge>) -> Option<RoleOrder>
-    ensures { option_to_list result ≡ (if is_same_edge old.now new.now then [] else revoke gener clock old.now) }
+    ensures { option_to_list result
+        ≡ (if is_same_edge old.now new.now then [] else revoke gener clock old.now) }
 {
     match old {
         Some(_) if old != new => Some(RoleOrder {
@@ -26,7 +27,8 @@ fn revoked(gener: u32, clock: u8, old: &Option<Edge>, new: &Option<Edge>) -> Opt
 /// The order that gives a clock to whom its new edge names, where the edge changed.
 fn granted(gener: u32, clock: u8, old: &Option<Edge>, new: &Option<Edge>) -> Option<RoleOrder>
     requires { HasCtrlIfAny new.now }
-    ensures { option_to_list result ≡ (if is_same_edge old.now new.now then [] else grant gener clock new.now) }
+    ensures { option_to_list result
+        ≡ (if is_same_edge old.now new.now then [] else grant gener clock new.now) }
 {
     match new {
         Some(edge) if old != new => Some(RoleOrder {
@@ -102,7 +104,7 @@ fn put_grants(
 
 /// Writes the orders of the generation in which the edges of the clocks become `new`, and answers how
 /// many they are: a revoke of each clock that had an edge and whose edge changed, in rising clocks,
-/// then a grant of each clock whose edge changed to a new one, in rising clocks (own). So no order
+/// then a grant of each clock whose edge changed to a new one, in rising clocks (project). So no order
 /// makes a clock copy one that copies it back, whichever of them have come. There are at most
 /// `CLOCKS_MAX` clocks, the controllers of the new edges fit into octets, and `out` has two places for
 /// each clock. Does not allocate.
@@ -118,11 +120,15 @@ pub fn orders(
     requires places { length out.old ≡ 2 * length old.now }
     ensures count { result ≡ length (orders_of gener old.now new.now) }
     ensures orders { out.new ≡ orders_of gener old.now new.now ++ drop result out.old }
-    ensures parts { (k : ℕ) → IsPart (ctrls_after (ctrls_of old.now) (take k (orders_of gener old.now new.now))) (ctrls_of old.now)
-        ⊎ IsPart (ctrls_after (ctrls_of old.now) (take k (orders_of gener old.now new.now))) (ctrls_of new.now) }
+    ensures parts { (k : ℕ) →
+        IsPart (ctrls_after (ctrls_of old.now) (take k (orders_of gener old.now new.now)))
+        (ctrls_of old.now)
+        ⊎ IsPart (ctrls_after (ctrls_of old.now) (take k (orders_of gener old.now new.now)))
+        (ctrls_of new.now) }
     ensures forests { (k : ℕ) → IsForest (ctrls_of old.now) → IsForest (ctrls_of new.now)
         → IsForest (ctrls_after (ctrls_of old.now) (take k (orders_of gener old.now new.now))) }
-    ensures at_last { ctrls_after (ctrls_of old.now) (orders_of gener old.now new.now) ≡ ctrls_of new.now }
+    ensures at_last { ctrls_after (ctrls_of old.now) (orders_of gener old.now new.now)
+        ≡ ctrls_of new.now }
 {
     orders_leave_parts();
     orders_leave_forests();

@@ -1,5 +1,3 @@
-ghost use Rattle.std.specs.Prelude.{◌≡◌};
-
 use crate::*;
 use ptp_base::{ClockId, NoMemory, PortId, PortState};
 

@@ -1,5 +1,5 @@
 ghost use Rattle.std.specs.Prelude.{◌≡◌};
-ghost use Rattle.ptp_profile.specs.Decision.{wins_against, wins_by_topology, is_received_on, never_follows, stays, decided_code, code_of};
+ghost use Rattle.ptp_profile.specs.Best.StateDecision.{wins_against, wins_by_topology, is_received_on, never_follows, decides_nothing, decided_code, code_of};
 
 use ds_compare::{compare, wins};
 use ptp_base::{Announcement, Code, PortState};
@@ -45,7 +45,7 @@ fn never_follows(own: &Announcement) -> bool
 
 /// Whether nothing is decided of the port (IEEE 1588-2019, 9.3.3).
 fn stays(state: PortState, erbest: &Option<Announcement>) -> bool
-    ensures { result ≡ stays state erbest.now }
+    ensures { result ≡ decides_nothing state erbest.now }
 {
     match state {
         PortState::Faulty | PortState::Disabled | PortState::Initializing => true,

@@ -1,7 +1,7 @@
 ghost use Rattle.std.specs.Prelude.{◌≡◌, ◌≤◌, length};
 ghost use Rattle.ptp_base.specs.declared.limits.TheConstants.{PORTS_MAX};
-ghost use Rattle.ptp_profile.specs.Decision.{codes_of};
-ghost use Rattle.state_decision.specs.Codes.{codes_with};
+ghost use Rattle.ptp_profile.specs.Best.StateDecision.{codes_of};
+ghost use Rattle.state_decision.specs.PortCodes.{codes_with};
 
 use crate::best::ebest;
 use crate::code::code_of;

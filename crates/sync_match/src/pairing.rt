@@ -1,14 +1,14 @@
 ghost use Rattle.std.specs.Prelude.{◌≡◌, pos, ◌^◌, ◌+ℤ◌, List, [], ◌∷◌, IfSome};
 ghost use Rattle.ptp_base.specs.Floor.{IsWithin};
-ghost use Rattle.ptp_profile.specs.Sync.{Piece, Follow_up, given, triple_from};
-ghost use Rattle.sync_match.specs.Waiting.{Remembers, sync_of};
+ghost use Rattle.ptp_profile.specs.Timing.OffsetAndDelay.{Piece, Follow_up, triple_after, triple_from};
+ghost use Rattle.sync_match.specs.PairingView.{PairingRepresents, sync_of};
 
-use crate::half::Half;
+use crate::piece;
 use ptp_base::Triple;
 use std::marker::Model;
 
 /// The times of a Sync and its Follow_Up, and the corrections of both (IEEE 1588-2019, 11.2).
-fn joined(precise: i64, arrived: i64, correction: i64, added: i64) -> Triple
+fn triple_of_pieces(precise: i64, arrived: i64, correction: i64, added: i64) -> Triple
     ensures exact { result ≡ triple_from precise arrived (correction +ℤ added) }
     ensures small { IsWithin (pos (2 ^ 64)) result.correction }
 {
@@ -20,17 +20,17 @@ fn joined(precise: i64, arrived: i64, correction: i64, added: i64) -> Triple
 }
 
 /// The message of one master that waits for its partner: nothing, one Sync or one Follow_Up
-/// (IEEE 1588-2019, 9.5.4 and 9.5.5; that it is one alone is own).
+/// (IEEE 1588-2019, 9.5.4 and 9.5.5; that it is one alone is the project's).
 #[derive(Drop)]
 pub struct Pairing {
-    kept: Option<Half>,
+    kept: Option<piece::Piece>,
 }
 
 impl Model for Pairing {
     ghost use Rattle.std.specs.Prelude.{Option};
-    ghost use Rattle.sync_match.specs.declared.half.Half.{Half};
+    ghost use Rattle.sync_match.specs.declared.piece.Piece.{Piece};
 
-    ghost Value = { Option Half };
+    ghost Value = { Option Piece };
 
     ghost view = { λ p. p.kept };
 }
@@ -38,14 +38,14 @@ impl Model for Pairing {
 impl Pairing {
     /// A pairing that keeps nothing.
     pub fn new() -> Pairing
-        ensures { Remembers result [] }
+        ensures { PairingRepresents result [] }
     {
         Pairing { kept: None }
     }
 
     /// Keeps nothing.
     pub fn clear(&mut self)
-        ensures { Remembers self.new [] }
+        ensures { PairingRepresents self.new [] }
     {
         *self = Pairing::new();
     }
@@ -65,10 +65,10 @@ impl Pairing {
         arrived: i64,
         correction: i64,
     ) -> Option<Triple>
-        ensures answer { (before : List Piece) → Remembers self.old before
-            → result ≡ given (sync_of seq two_step origin arrived correction) before }
-        ensures kept { (before : List Piece) → Remembers self.old before
-            → Remembers self.new (sync_of seq two_step origin arrived correction ∷ before) }
+        ensures answer { (before : List Piece) → PairingRepresents self.old before
+            → result ≡ triple_after (sync_of seq two_step origin arrived correction) before }
+        ensures kept { (before : List Piece) → PairingRepresents self.old before
+            → PairingRepresents self.new (sync_of seq two_step origin arrived correction ∷ before) }
         ensures small { IfSome result (λ t. IsWithin (pos (2 ^ 64)) t.correction) }
     {
         if !two_step {
@@ -81,17 +81,17 @@ impl Pairing {
         }
         match self.kept {
             Some(
-                Half::FollowUp {
+                piece::Piece::FollowUp {
                     seq: follow_up_seq,
                     precise,
                     correction: added,
                 },
             ) if follow_up_seq == seq => {
                 self.kept = None;
-                Some(joined(precise, arrived, correction, added))
+                Some(triple_of_pieces(precise, arrived, correction, added))
             }
             _ => {
-                self.kept = Some(Half::Sync {
+                self.kept = Some(piece::Piece::Sync {
                     seq,
                     arrived,
                     correction,
@@ -108,25 +108,25 @@ impl Pairing {
     /// the Follow_Up is kept, in place of what was, and the answer is None. The correction of the answer
     /// is from -2^64 to 2^64.
     pub fn follow_up(&mut self, seq: u16, precise: i64, correction: i64) -> Option<Triple>
-        ensures answer { (before : List Piece) → Remembers self.old before
-            → result ≡ given (Follow_up seq precise correction) before }
-        ensures kept { (before : List Piece) → Remembers self.old before
-            → Remembers self.new (Follow_up seq precise correction ∷ before) }
+        ensures answer { (before : List Piece) → PairingRepresents self.old before
+            → result ≡ triple_after (Follow_up seq precise correction) before }
+        ensures kept { (before : List Piece) → PairingRepresents self.old before
+            → PairingRepresents self.new (Follow_up seq precise correction ∷ before) }
         ensures small { IfSome result (λ t. IsWithin (pos (2 ^ 64)) t.correction) }
     {
         match self.kept {
             Some(
-                Half::Sync {
+                piece::Piece::Sync {
                     seq: sync_seq,
                     arrived,
                     correction: added,
                 },
             ) if sync_seq == seq => {
                 self.kept = None;
-                Some(joined(precise, arrived, added, correction))
+                Some(triple_of_pieces(precise, arrived, added, correction))
             }
             _ => {
-                self.kept = Some(Half::FollowUp {
+                self.kept = Some(piece::Piece::FollowUp {
                     seq,
                     precise,
                     correction,

@@ -1,4 +1,4 @@
-pub mod Outside
-pub mod Memory
-pub mod Lines
+pub mod SourceAndSink
+pub mod MemEnds
+pub mod TextLines
 pub mod Numerals

@@ -1,6 +1,6 @@
-ghost use Rattle.std.specs.Prelude.{◌≡◌, ℕ, ◌+◌, ◌-◌, ◌^◌, ◌<◌, ◌≤◌, Some, None};
+ghost use Rattle.std.specs.Prelude.{◌≡◌, ◌+◌, ◌-◌, ◌<◌};
 
-use crate::outside::{Failed, Sink, Source};
+use crate::source_and_sink::{Failed, Sink, Source};
 use std::io::{Read, Write};
 
 /// Standard input, or another reader, with a count of its errors. It tells what its reader tells:

@@ -2,7 +2,7 @@ ghost use Rattle.std.specs.Prelude.{◌≡◌, ◌<◌, not, List, ℕ, length, 
 ghost use Rattle.std.specs.List.{position, position_or_len};
 ghost use Rattle.std.specs.Iterator.{item_count};
 ghost use Rattle.bstr.specs.Text.{TakesFirstRef};
-ghost use Rattle.text_io.specs.Lines.{lines_of_text, words_of, is_blank, is_printable};
+ghost use Rattle.text_io.specs.TextLines.{lines_of_text, words_of, is_blank, is_printable};
 
 use bstr::{ByteSlice, Lines};
 use std::marker::Model;
@@ -23,7 +23,7 @@ pub struct Words<'a> {
 
 impl<'a> Model for Words<'a> {
     ghost use Rattle.std.specs.Prelude.{List, ℕ};
-    ghost use Rattle.text_io.specs.Lines.{words_of};
+    ghost use Rattle.text_io.specs.TextLines.{words_of};
 
     ghost Value = { List (List ℕ) };
 

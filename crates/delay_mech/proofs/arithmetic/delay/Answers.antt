@@ -1,6 +1,6 @@
 use Rattle.std.proofs.Common.{pos, ap, ◌∙◌}
 use Rattle.ptp_base.specs.Floor.{floor_of}
-use Rattle.delay_mech.proofs.Sums.{far_is, far_within, half_within}
+use Rattle.delay_mech.proofs.lemmas.DelaySumLemmas.{far_is, far_within, half_within}
 use Rattle.delay_mech.proofs.arithmetic.delay.Goals as goal
 
 pub returns-clause-within : goal.returns-clause-within

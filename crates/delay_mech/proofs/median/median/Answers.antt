@@ -1,8 +1,8 @@
 use Rattle.std.proofs.Common.{◌≡◌, length, arith}
 use Rattle.std.proofs.lemmas.Int.{to_z-of_z}
 use Rattle.std.proofs.lemmas.List.Sorted.{All-permutation}
-use Rattle.delay_mech.specs.Memory.{IsDelay}
-use Rattle.delay_mech.proofs.Medians.{median_of_sorted}
+use Rattle.delay_mech.specs.DelaysView.{IsDelay}
+use Rattle.delay_mech.proofs.lemmas.MedianLemmas.{median_of_sorted}
 use Rattle.delay_mech.proofs.median.median.Goals as goal
 
 pub middle-requires-clause-small : goal.middle-requires-clause-small

@@ -1,6 +1,6 @@
 use Rattle.std.proofs.Common.{◌<◌, ◌∙◌, length, arith}
 use Rattle.std.proofs.lemmas.List.{length-set}
-use Rattle.discipline_seat.proofs.Lines.{logs-grown, openings-grown, rooms-grown, rooms-more}
+use Rattle.discipline_seat.proofs.lemmas.SeatInvariantLemmas.{logs-grown, openings-grown, rooms-grown, rooms-more}
 use Rattle.discipline_seat.proofs.plain.reserve.Goals as goal
 
 pub returns-in_err-reserve-clause-openings : goal.returns-in_err-reserve-clause-openings

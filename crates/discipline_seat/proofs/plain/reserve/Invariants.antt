@@ -1,6 +1,6 @@
 use Rattle.std.proofs.Common.{◌≡◌, ◌<◌, ◌≤◌, ℕ, get_or, length, vec_len}
 use Rattle.std.specs.Prelude.{All}
-use Rattle.discipline_seat.specs.Inside.{Line, logs_of, openings_of}
+use Rattle.discipline_seat.specs.SeatInvariants.{Line, logs_of, openings_of}
 use Rattle.discipline_seat.proofs.plain.reserve.Given as goal
 
 abbrev pub invariant-loop-place : goal.invariant-loop-place

@@ -2,7 +2,7 @@ use Rattle.std.proofs.Common.{arith}
 use Rattle.std.proofs.lemmas.Int.{ints}
 use mir.Syntax.{w8}
 use mir.Val.{to_z, of_z}
-use Rattle.ptp_base.proofs.IntervalLemmas.{interval_of-le}
+use Rattle.ptp_base.proofs.lemmas.IntervalLemmas.{interval_of-le}
 use Rattle.port_engine.proofs.intervals.interval_of.Goals as goal
 
 pub returns-clause-few : goal.returns-clause-few

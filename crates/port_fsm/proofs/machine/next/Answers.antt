@@ -1,5 +1,5 @@
 use Rattle.std.proofs.Common.{◌≡◌, subst, sym}
-use Rattle.ptp_profile.specs.Machine.{next}
+use Rattle.ptp_profile.specs.Port.PortStates.{next}
 use Rattle.port_fsm.proofs.machine.next.Goals as goal
 
 pub returns-in-Faulty : goal.returns-in-Faulty

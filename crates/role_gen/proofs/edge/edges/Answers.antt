@@ -1,7 +1,7 @@
 use Rattle.std.proofs.Common.{ℕ, Option, length, arith, ap, ◌∙◌, subst, sym}
-use Rattle.ptp_profile.specs.Roles.{edge_by}
-use Rattle.role_gen.specs.Generations.{HaveCtrls}
-use Rattle.role_gen.proofs.Finding.{edges-more, edges-done, HaveCtrls-edges}
+use Rattle.ptp_profile.specs.Roles.Edges.{edge_by}
+use Rattle.role_gen.specs.Generation.{HaveCtrls}
+use Rattle.role_gen.proofs.lemmas.SlavePortLemmas.{edges-more, edges-done, HaveCtrls-edges}
 use Rattle.role_gen.proofs.edge.edges.Goals as goal
 
 pub loop-clock-preserved : goal.loop-clock-preserved

@@ -1,6 +1,6 @@
 use Rattle.std.proofs.Common.{◌≡◌, ◌-◌, ◌++◌, map, length, take}
 use Rattle.std.specs.List.{range_with_len}
-use Rattle.ptp_profile.specs.Roles.{edge_by, edges_of, port_on}
+use Rattle.ptp_profile.specs.Roles.Edges.{edge_by, edges_of, port_on}
 use Rattle.role_gen.proofs.edge.edges.Given as goal
 
 abbrev pub invariant-loop-clock : goal.invariant-loop-clock

@@ -1,6 +1,6 @@
 use Rattle.std.proofs.Common.{◌<◌, arith}
 use Rattle.ptp_base.specs.declared.limits.TheConstants.{PORTS_MAX}
-use Rattle.role_gen.proofs.Finding.{place-small, port-from_place, no_port-from_place}
+use Rattle.role_gen.proofs.lemmas.SlavePortLemmas.{place-small, port-from_place, no_port-from_place}
 use Rattle.role_gen.proofs.edge.port_on.Goals as goal
 
 pub overflow_cast-result : goal.overflow_cast-result

@@ -1,5 +1,5 @@
 use Rattle.std.proofs.Common.{◌≡◌, drop}
-use Rattle.ptp_profile.specs.Roles.{are_same_edges}
+use Rattle.ptp_profile.specs.Roles.Edges.{are_same_edges}
 use Rattle.role_gen.proofs.generations.are_same.Given as goal
 
 abbrev pub invariant-loop-clock : goal.invariant-loop-clock

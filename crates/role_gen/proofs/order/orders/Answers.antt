@@ -1,5 +1,5 @@
-use Rattle.ptp_profile.specs.Roles.{revokes, grants}
-use Rattle.role_gen.proofs.Putting.{put_together}
+use Rattle.ptp_profile.specs.Roles.Edges.{revokes, grants}
+use Rattle.role_gen.proofs.lemmas.OrderLemmas.{put_together}
 use Rattle.role_gen.proofs.order.orders.Goals as goal
 
 pub returns-clause-orders : goal.returns-clause-orders

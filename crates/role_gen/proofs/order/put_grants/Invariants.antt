@@ -1,5 +1,5 @@
 use Rattle.std.proofs.Common.{◌≡◌, ◌≤◌, ◌+◌, ◌++◌, drop, length, take}
-use Rattle.ptp_profile.specs.Roles.{grants, grants_from}
+use Rattle.ptp_profile.specs.Roles.Edges.{grants, grants_from}
 use Rattle.role_gen.proofs.order.put_grants.Given as goal
 
 abbrev pub invariant-loop-clock : goal.invariant-loop-clock

@@ -1,5 +1,5 @@
 use Rattle.std.proofs.Common.{◌≡◌, ◌≤◌, ◌++◌, drop, length, take}
-use Rattle.ptp_profile.specs.Roles.{revokes, revokes_from}
+use Rattle.ptp_profile.specs.Roles.Edges.{revokes, revokes_from}
 use Rattle.role_gen.proofs.order.put_revokes.Given as goal
 
 abbrev pub invariant-loop-clock : goal.invariant-loop-clock

@@ -1,7 +1,7 @@
 use Rattle.std.proofs.Common.{◌≡◌, drop}
 use Rattle.std.specs.Prelude.{fold, filter_map}
-use Rattle.ptp_profile.specs.Decision.{bests_of}
-use Rattle.ptp_profile.specs.Foreign.{better, ebest}
+use Rattle.ptp_profile.specs.Best.StateDecision.{bests_of}
+use Rattle.ptp_profile.specs.Best.ForeignMasters.{better, ebest}
 use Rattle.state_decision.proofs.best.ebest.Given as goal
 
 abbrev pub invariant-loop-port : goal.invariant-loop-port

@@ -1,6 +1,6 @@
 use Rattle.std.proofs.Common.{◌≡◌, ◌+◌, ◌++◌, drop, take}
-use Rattle.state_decision.specs.Codes.{codes_with}
-use Rattle.state_decision.proofs.Codes.{codes_from}
+use Rattle.state_decision.specs.PortCodes.{codes_with}
+use Rattle.state_decision.proofs.lemmas.PortCodeLemmas.{codes_from}
 use Rattle.state_decision.proofs.decision.codes_with.Given as goal
 
 abbrev pub invariant-loop-i : goal.invariant-loop-i

@@ -1,5 +1,5 @@
 use Rattle.std.proofs.Common.{length}
-use Rattle.text_io.proofs.Digits.{padded}
+use Rattle.text_io.proofs.lemmas.NumeralLemmas.{padded}
 use Rattle.text_io.proofs.numerals.fraction.Goals as goal
 
 pub returns-clause-bound : goal.returns-clause-bound

@@ -1,5 +1,5 @@
 use Rattle.std.proofs.Common.{◌<◌, lit<, arith}
-use Rattle.text_io.proofs.Digits.{power_below, hex_below}
+use Rattle.text_io.proofs.lemmas.NumeralLemmas.{power_below, hex_below}
 use Rattle.text_io.proofs.numerals.hex_number.Goals as goal
 
 pub numeral-requires-clause-room : goal.numeral-requires-clause-room

@@ -1,5 +1,5 @@
 use Rattle.std.proofs.Common.{◌<◌, arith}
-use Rattle.text_io.proofs.Digits.{hex_below}
+use Rattle.text_io.proofs.lemmas.NumeralLemmas.{hex_below}
 use Rattle.text_io.proofs.numerals.identity.Goals as goal
 
 pub overflow_add-result : goal.overflow_add-result

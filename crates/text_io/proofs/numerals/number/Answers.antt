@@ -1,4 +1,4 @@
-use Rattle.text_io.proofs.Digits.{number_bound}
+use Rattle.text_io.proofs.lemmas.NumeralLemmas.{number_bound}
 use Rattle.text_io.proofs.numerals.number.Goals as goal
 
 pub returns-clause-bound : goal.returns-clause-bound

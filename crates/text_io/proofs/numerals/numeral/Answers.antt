@@ -1,6 +1,6 @@
 use Rattle.std.proofs.Common.{◌≡◌, ◌<◌, get_or, arith, ◌∙◌}
 use Rattle.std.specs.Char.{digit_value}
-use Rattle.text_io.proofs.Digits.{bound_more, more_fits, value_more, digits_more}
+use Rattle.text_io.proofs.lemmas.NumeralLemmas.{bound_more, more_fits, value_more, digits_more}
 use Rattle.text_io.proofs.numerals.numeral.Goals as goal
 
 pub overflow_mul-value : goal.overflow_mul-value

@@ -1,5 +1,5 @@
-use Rattle.delay_mech.proofs.Keeping.{sound_pushed}
-use Rattle.delay_mech.proofs.Sums.{far_within}
+use Rattle.delay_mech.proofs.lemmas.DelaysViewLemmas.{sound_pushed}
+use Rattle.delay_mech.proofs.lemmas.DelaySumLemmas.{far_within}
 use Rattle.delay_mech.proofs.delays.Delays.finish.Goals as goal
 
 pub invariant_of-self : goal.invariant_of-self

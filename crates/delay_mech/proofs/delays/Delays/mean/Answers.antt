@@ -1,11 +1,11 @@
 use Rattle.std.proofs.Common.{◌≡◌, ◌<◌, ◌+◌, ℤ, List, arith, take, length, Some, sym, ap, ◌∙◌, slice_get, option_copied}
 use Rattle.std.proofs.lemmas.List.{length-set}
-use Rattle.delay_mech.specs.Memory.{Memory}
-use Rattle.delay_mech.proofs.Keeping.{copied, small_copied, none_there}
+use Rattle.delay_mech.specs.DelaysView.{DelaysView}
+use Rattle.delay_mech.proofs.lemmas.DelaysViewLemmas.{copied, small_copied, none_there}
 use Rattle.delay_mech.proofs.delays.Delays.mean.Goals as goal
 use Rattle.delay_mech.proofs.delays.Delays.mean.Goals.{in-Some, in_default}
 
-abbrev delays_of : Memory → List ℤ
+abbrev delays_of : DelaysView → List ℤ
 delays_of m = m.delays
 
 pub loop-i-preserved : goal.loop-i-preserved

@@ -1,8 +1,8 @@
 use Rattle.std.proofs.Common.{◌≡◌, ◌<◌, ◌-◌, ℤ, ◌∷◌, ap, ◌∙◌, length, rules, w64, to_z, of_z}
 use Rattle.std.proofs.lemmas.Int.{to_z-of_z}
 use Rattle.ptp_profile.specs.declared.seats.Receipt.{Receipt}
-use Rattle.ptp_profile.specs.Logs.{change_of}
-use Rattle.discipline_seat.proofs.Lines.{line-there, line_of, number-added, refused-seen, seen-added}
+use Rattle.ptp_profile.specs.Roles.SeatLogs.{change_of}
+use Rattle.discipline_seat.proofs.lemmas.SeatInvariantLemmas.{line-there, line_of, number-added, refused-seen, seen-added}
 use Rattle.discipline_seat.proofs.plain.PlainSeats.adjust.Goals as goal
 
 pub returns-in-Ok-clause-taken : goal.returns-in-Ok-clause-taken

@@ -1,4 +1,4 @@
-use Rattle.discipline_seat.proofs.Lines.{seen-opened, IsTable-opened}
+use Rattle.discipline_seat.proofs.lemmas.SeatInvariantLemmas.{seen-opened, IsTable-opened}
 use Rattle.discipline_seat.proofs.plain.PlainSeats.new.Goals as goal
 
 pub invariant_of-result : goal.invariant_of-result

@@ -1,7 +1,7 @@
 use Rattle.std.proofs.Common.{◌<◌, ap, ◌∙◌, length}
 use Rattle.ptp_profile.specs.declared.seats.LogEntry.TheVariants.{Order}
 use Rattle.ptp_profile.specs.declared.seats.Receipt.{Receipt}
-use Rattle.discipline_seat.proofs.Lines.{line-there, number-added, seen-added}
+use Rattle.discipline_seat.proofs.lemmas.SeatInvariantLemmas.{line-there, number-added, seen-added}
 use Rattle.discipline_seat.proofs.plain.PlainSeats.order.Goals as goal
 
 pub returns-clause-log : goal.returns-clause-log

@@ -2,9 +2,9 @@ use Rattle.std.proofs.Common.{◌≡◌, ◌+◌, ◌-◌, ℕ, [], ◌∷◌, �
 use Rattle.std.specs.Vec.Iter.{into_iter_items}
 use Rattle.ptp_base.specs.Room.{Reserved}
 use Rattle.ptp_profile.specs.declared.seats.Log.{Log}
-use Rattle.discipline_seat.specs.Inside.{logs_of, openings_of}
-use Rattle.ptp_profile.specs.Logs.{logs_from}
-use Rattle.discipline_seat.proofs.Lines.{log_as, logs_from-more}
+use Rattle.discipline_seat.specs.SeatInvariants.{logs_of, openings_of}
+use Rattle.ptp_profile.specs.Roles.SeatLogs.{logs_from}
+use Rattle.discipline_seat.proofs.lemmas.SeatInvariantLemmas.{log_as, logs_from-more}
 use Rattle.discipline_seat.proofs.plain.PlainSeats.part.Goals as goal
 
 pub loop-seat-preserved : goal.loop-seat-preserved

@@ -1,8 +1,8 @@
 use Rattle.std.proofs.Common.{◌≡◌, ◌+◌, ◌≤◌, ◌++◌, length}
 use Rattle.std.specs.Vec.Iter.{into_iter_items, into_iter_len}
 use Rattle.ptp_base.specs.declared.limits.TheConstants.{CLOCKS_MAX}
-use Rattle.discipline_seat.specs.Inside.{logs_of, openings_of}
-use Rattle.ptp_profile.specs.Logs.{logs_from}
+use Rattle.discipline_seat.specs.SeatInvariants.{logs_of, openings_of}
+use Rattle.ptp_profile.specs.Roles.SeatLogs.{logs_from}
 use Rattle.discipline_seat.proofs.plain.PlainSeats.part.Given as goal
 
 abbrev pub invariant-loop-seat : goal.invariant-loop-seat

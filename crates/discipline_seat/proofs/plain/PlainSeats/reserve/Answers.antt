@@ -1,4 +1,4 @@
-use Rattle.discipline_seat.proofs.Lines.{IsTable-grown}
+use Rattle.discipline_seat.proofs.lemmas.SeatInvariantLemmas.{IsTable-grown}
 use Rattle.discipline_seat.proofs.plain.PlainSeats.reserve.Goals as goal
 
 pub invariant_of-self : goal.invariant_of-self

@@ -1,7 +1,7 @@
 use Rattle.std.proofs.Common.{◌≡◌, ◌++◌, ◌∷◌, [], rules, ap, ◌∙◌, w64, to_z, of_z, ℤ}
 use Rattle.std.proofs.lemmas.Int.{to_z-of_z}
 use Rattle.ptp_profile.specs.declared.seats.LogEntry.TheVariants.{Change}
-use Rattle.discipline_seat.proofs.Lines.{changed-line}
+use Rattle.discipline_seat.proofs.lemmas.SeatInvariantLemmas.{changed-line}
 use Rattle.discipline_seat.proofs.seat.Seat.change.Goals as goal
 
 pub returns-clause-log : goal.returns-clause-log

@@ -1,5 +1,5 @@
 use Rattle.std.proofs.Common.{◌<◌, length, arith, ◌∙◌}
-use Rattle.foreign_master.proofs.Calling.{run_more}
+use Rattle.foreign_master.proofs.lemmas.RecordCallLemmas.{run_more}
 use Rattle.foreign_master.proofs.records.Records.run.Goals as goal
 
 pub loop-i-preserved : goal.loop-i-preserved

@@ -1,6 +1,6 @@
 use Rattle.std.proofs.Common.{rules, bit_and, ap, sym, ◌∙◌}
 use Rattle.std.specs.Prelude.{ℕ}
-use Rattle.port_engine.proofs.Flags.{known_low}
+use Rattle.port_engine.proofs.lemmas.TimeFlagLemmas.{known_low}
 use Rattle.port_engine.proofs.engine.PortEngine.announce.Goals as goal
 
 pub returns-clause-fits : goal.returns-clause-fits

@@ -1,7 +1,7 @@
 use Rattle.std.proofs.Common.{◌∙◌, ap, inl, inr}
-use Rattle.ptp_base.specs.declared.port.PortConf.{PortConf}
-use Rattle.ptp_profile.specs.Timers.{waiting_timers, sending_timers, qualifying_timers, qualification_of}
-use Rattle.port_engine.proofs.States.{conf_of, with_timers}
+use Rattle.ptp_base.specs.declared.port_conf.PortConf.{PortConf}
+use Rattle.ptp_profile.specs.Port.PortTimers.{waiting_timers, sending_timers, qualifying_timers, qualification_of}
+use Rattle.port_engine.proofs.lemmas.EngineStateLemmas.{conf_of, with_timers}
 use Rattle.port_engine.proofs.engine.PortEngine.enter_state.Goals as goal
 
 pub returns-in-Uncalibrated : goal.returns-in-Uncalibrated

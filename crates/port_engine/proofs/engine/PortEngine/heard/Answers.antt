@@ -1,8 +1,8 @@
 use Rattle.std.proofs.Common.{rules, ◌∙◌, ap, sym, subst, ℤ, w64}
 use Rattle.std.proofs.lemmas.Int.{to_z-of_z}
-use Rattle.ptp_profile.specs.Port.{timing_fate, timing_measure, after_timing}
-use Rattle.port_engine.specs.Engine.{IsEngineOf}
-use Rattle.port_engine.proofs.Timing.{pair_sends_nothing, response_sends_nothing}
+use Rattle.ptp_profile.specs.Port.Port.{timing_fate, timing_measure, after_timing}
+use Rattle.port_engine.specs.EngineView.{EngineRepresents}
+use Rattle.port_engine.proofs.lemmas.TimingMessageLemmas.{pair_sends_nothing, response_sends_nothing}
 use Rattle.port_engine.proofs.engine.PortEngine.heard.Goals as goal
 
 pub returns-in-Sync : goal.returns-in-Sync
@@ -13,7 +13,7 @@ returns-in-Sync c =
           c.take_sync.ensures.told length p c.args.parent is (sym (c.takes_from.ensures length p is) ∙ c.if-not-takes_from.false)
           ∙ ap (λ (z : ℤ). timing_fate c.args.parent c.args.m.now z p c.args.m.now.body) kept;
       measure = λ length p is. c.take_sync.ensures.measure length p is ∙ ap (λ (z : ℤ). timing_measure length c.args.m.now z c.take_sync.result.0 p) kept;
-      port = λ length p is. let P : ℤ → Type 0 = λ z. IsEngineOf length c.take_sync.new.self (after_timing c.args.m.now z c.take_sync.result.0 p) in subst P kept (c.take_sync.ensures.port length p is);
+      port = λ length p is. let P : ℤ → Type 0 = λ z. EngineRepresents length c.take_sync.new.self (after_timing c.args.m.now z c.take_sync.result.0 p) in subst P kept (c.take_sync.ensures.port length p is);
       sent = λ length p is. pair_sends_nothing _ _ _ _ (c.take_sync.ensures.fate length p is);
       same = search rules;
       same_frames = search rules;
@@ -29,7 +29,7 @@ returns-in-FollowUp c =
           c.take_follow_up.ensures.told length p c.args.parent is (sym (c.takes_from.ensures length p is) ∙ c.if-not-takes_from.false)
           ∙ ap (λ (z : ℤ). timing_fate c.args.parent c.args.m.now z p c.args.m.now.body) kept;
       measure = λ length p is. c.take_follow_up.ensures.measure length p is ∙ ap (λ (z : ℤ). timing_measure length c.args.m.now z c.take_follow_up.result.0 p) kept;
-      port = λ length p is. let P : ℤ → Type 0 = λ z. IsEngineOf length c.take_follow_up.new.self (after_timing c.args.m.now z c.take_follow_up.result.0 p) in subst P kept (c.take_follow_up.ensures.port length p is);
+      port = λ length p is. let P : ℤ → Type 0 = λ z. EngineRepresents length c.take_follow_up.new.self (after_timing c.args.m.now z c.take_follow_up.result.0 p) in subst P kept (c.take_follow_up.ensures.port length p is);
       sent = λ length p is. pair_sends_nothing _ _ _ _ (c.take_follow_up.ensures.fate length p is);
       same = search rules;
       same_frames = search rules;

@@ -1,6 +1,6 @@
 use Rattle.std.proofs.Common.{◌∙◌, ap, sym}
-use Rattle.ptp_profile.specs.Port.{paired_fate}
-use Rattle.port_engine.proofs.Timing.{judged_measure, judged_port, follow_up_fate}
+use Rattle.ptp_profile.specs.Port.Port.{paired_fate}
+use Rattle.port_engine.proofs.lemmas.TimingMessageLemmas.{judged_measure, judged_port, follow_up_fate}
 use Rattle.port_engine.proofs.engine.PortEngine.take_follow_up.Goals as goal
 
 pub returns-clause-measure : goal.returns-clause-measure

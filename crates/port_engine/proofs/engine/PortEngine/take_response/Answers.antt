@@ -1,15 +1,15 @@
 use Rattle.std.proofs.Common.{rules, ◌≡◌, ◌∙◌, ap, refl, sym, subst}
 use Rattle.std.proofs.lemmas.Int.{to_z-of_z}
-use Rattle.ptp_profile.specs.Port.{response_fate}
-use Rattle.delay_mech.specs.Memory.{answered_by}
-use Rattle.port_engine.specs.Engine.{Engine, IsEngineOf}
-use Rattle.port_engine.proofs.Timing.{matched_fate, unmatched_fate, response_kept, same_answer, delay_resp_fate}
+use Rattle.ptp_profile.specs.Port.Port.{response_fate}
+use Rattle.delay_mech.specs.DelaysView.{answered_by}
+use Rattle.port_engine.specs.EngineView.{Engine, EngineRepresents}
+use Rattle.port_engine.proofs.lemmas.TimingMessageLemmas.{matched_fate, unmatched_fate, response_kept, same_answer, delay_resp_fate}
 use Rattle.port_engine.proofs.engine.PortEngine.take_response.Goals as goal
 use Rattle.port_engine.proofs.engine.PortEngine.take_response.Goals.{in-Matched, in-Unmatched}
 
 pub returns-clause-port : goal.returns-clause-port
 returns-clause-port c = λ length p seen is.
-    let P : Engine → Type 0 = λ e. IsEngineOf length e p in
+    let P : Engine → Type 0 = λ e. EngineRepresents length e p in
     let own = subst P (sym c.self.view_is) is in
     let fate : c.match-response.result ≡ response_fate (answered_by c.self.inside.delays c.args.m.now.seq c.args.requesting.now) = elim c.match-response.branch [
       | in-Matched w ↦ matched_fate _ _ _ c.response.ensures.answer w.in-Matched.is w.result-is
@@ -20,7 +20,7 @@ returns-clause-port c = λ length p seen is.
 
 pub returns-clause-told : goal.returns-clause-told
 returns-clause-told c = λ length p parent seen is takes.
-    let P : Engine → Type 0 = λ e. IsEngineOf length e p in
+    let P : Engine → Type 0 = λ e. EngineRepresents length e p in
     let own = subst P (sym c.self.view_is) is in
     let fate : c.match-response.result ≡ response_fate (answered_by c.self.inside.delays c.args.m.now.seq c.args.requesting.now) = elim c.match-response.branch [
       | in-Matched w ↦ matched_fate _ _ _ c.response.ensures.answer w.in-Matched.is w.result-is

@@ -1,8 +1,8 @@
 use Rattle.std.proofs.Common.{rules, ◌∙◌, ap, sym, subst, ℤ, w64}
 use Rattle.std.proofs.lemmas.Int.{to_z-of_z}
-use Rattle.ptp_profile.specs.Port.{triple_of, with_piece, paired_fate}
-use Rattle.port_engine.specs.Engine.{IsEngineOf}
-use Rattle.port_engine.proofs.Timing.{judged_measure, judged_port, sync_fate}
+use Rattle.ptp_profile.specs.Port.Port.{triple_of, with_piece, paired_fate}
+use Rattle.port_engine.specs.EngineView.{EngineRepresents}
+use Rattle.port_engine.proofs.lemmas.TimingMessageLemmas.{judged_measure, judged_port, sync_fate}
 use Rattle.port_engine.proofs.engine.PortEngine.take_sync.Goals as goal
 
 pub returns-clause-fate : goal.returns-clause-fate
@@ -21,7 +21,7 @@ pub returns-clause-port : goal.returns-clause-port
 returns-clause-port c = λ length p is.
     let kept = to_z-of_z w64 c.args.seen (search rules) in
     let found = c.keep_sync-found.ensures.found length p is ∙ ap (λ (z : ℤ). triple_of c.args.m.now z p) kept in
-    let P : ℤ → Type 0 = λ z. IsEngineOf length c.keep_sync-found.new.self (with_piece c.args.m.now z p) in
+    let P : ℤ → Type 0 = λ z. EngineRepresents length c.keep_sync-found.new.self (with_piece c.args.m.now z p) in
     judged_port length _ c.args.m.now c.args.seen p _ _ c.judge.ensures.fate found (c.judge.ensures.port length _ (subst P kept (c.keep_sync-found.ensures.port length p is)))
 
 pub returns-clause-told : goal.returns-clause-told

@@ -1,7 +1,7 @@
 use Rattle.std.proofs.Common.{arith, ap}
 use Rattle.ptp_base.specs.Room.{Reserved}
 use Rattle.std.specs.Prelude.{ℕ}
-use Rattle.port_engine.proofs.Lengths.{written_fits}
+use Rattle.port_engine.proofs.lemmas.FrameLengthLemmas.{written_fits}
 use Rattle.port_engine.proofs.frames.Frames.put.Goals as goal
 
 pub encode_reserved-requires-clause-room : goal.encode_reserved-requires-clause-room

@@ -1,8 +1,8 @@
 use Rattle.std.proofs.Common.{◌≡◌, Some, None, subst, sym, ◌∙◌, arith}
 use Rattle.std.proofs.lemmas.Grind.{common_steps}
-use Rattle.port_fsm.proofs.Due.{IsSetAt, IsLeastIn, timer_more, due_is_set, due_is_least, none_is_set, none_is_due}
+use Rattle.port_fsm.proofs.lemmas.DueTimerLemmas.{IsSetAt, IsLeastIn, timer_more, due_is_set, due_is_least, none_is_set, none_is_due}
 use Rattle.std.specs.Prelude.{IfSome}
-use Rattle.ptp_profile.specs.Timers.{due_of}
+use Rattle.ptp_profile.specs.Port.PortTimers.{due_of}
 use Rattle.port_fsm.proofs.timers.Timers.due.Goals.{in-Some, in_default}
 use Rattle.port_fsm.proofs.timers.Timers.due.Goals as goal
 

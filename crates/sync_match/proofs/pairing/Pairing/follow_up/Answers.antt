@@ -1,6 +1,6 @@
 use Rattle.std.proofs.Common.{arith}
 use Rattle.std.proofs.lemmas.Int.{to_z-of_z}
-use Rattle.sync_match.proofs.Pairs.{follow_up_paired}
+use Rattle.sync_match.proofs.lemmas.PairingViewLemmas.{follow_up_paired}
 use Rattle.sync_match.proofs.pairing.Pairing.follow_up.Goals as goal
 
 pub returns-in-Some-Sync-clause-answer : goal.returns-in-Some-Sync-clause-answer

@@ -1,6 +1,6 @@
 use Rattle.std.proofs.Common.{arith}
 use Rattle.std.proofs.lemmas.Int.{to_z-of_z}
-use Rattle.sync_match.proofs.Pairs.{sync_paired}
+use Rattle.sync_match.proofs.lemmas.PairingViewLemmas.{sync_paired}
 use Rattle.sync_match.proofs.pairing.Pairing.sync.Goals as goal
 
 pub returns-in-Some-FollowUp-clause-answer : goal.returns-in-Some-FollowUp-clause-answer

@@ -1,8 +1,8 @@
 use Rattle.std.proofs.Common.{sym, ◌∙◌}
 use Rattle.std.proofs.lemmas.List.{take_rest}
 use Rattle.bstr.proofs.lemmas.MatchListLemmas.{goes-ref}
-use Rattle.text_io.specs.Lines.{is_blank}
-use Rattle.text_io.proofs.Wording.{no_more, one_part}
+use Rattle.text_io.specs.TextLines.{is_blank}
+use Rattle.text_io.proofs.lemmas.WordLemmas.{no_more, one_part}
 use Rattle.text_io.proofs.lines.WordsIterator.next.Goals as goal
 
 pub returns-in-None-clause-steps : goal.returns-in-None-clause-steps

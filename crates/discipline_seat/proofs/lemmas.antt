@@ -1,0 +1,3 @@
+pub mod SeatLawLemmas
+pub mod SeatInvariantLemmas
+pub mod ReversalLemmas

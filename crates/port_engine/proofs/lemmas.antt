@@ -1,0 +1,5 @@
+pub mod FrameLengthLemmas
+pub mod EngineStateLemmas
+pub mod TimeFlagLemmas
+pub mod TimingMessageLemmas
+pub mod SendingTimerLemmas

@@ -1,0 +1,2 @@
+pub mod DueTimerLemmas
+pub mod LeastTimerLemmas

@@ -1,0 +1,3 @@
+pub mod MemoryReadLemmas
+pub mod NumeralLemmas
+pub mod WordLemmas
