@@ -1,9 +1,9 @@
-ghost use Rattle.std.specs.Prelude.{◌≡◌, ℕ, List};
-ghost use Rattle.bc_config.specs.Phrases.{IsPhrase, IsFirst};
-ghost use Rattle.bc_history.specs.Headers.{closed_of, sole_header, numbered_header, placed_header, header_of};
-ghost use Rattle.bc_history.specs.ScenarioText.{role_of};
+ghost use Rattle.std.specs.Prelude.{◌≡◌};
+ghost use Rattle.text_io.specs.TextLines.{words_of};
+ghost use Rattle.bc_history.specs.Scenario.SectionHeaders.{closed_of, sole_header, numbered_header, placed_header, header_of};
+ghost use Rattle.bc_history.specs.Scenario.LineFaults.{role_of};
 
-use crate::phrase::Phrase;
+use crate::line::Line;
 use bc_history::{Header, Role, Section};
 use text_io::number;
 
@@ -65,44 +65,30 @@ fn placed(name: &[u8], port: &[u8], word: &[u8], clock: &[u8]) -> Option<Header>
     }
 }
 
-/// The header that the words of a line are.
-fn header(phrase: &Phrase) -> Option<Header>
-    ensures { (words : List (List ℕ)) → IsPhrase phrase.now words → result ≡ header_of words }
+/// The header that a line is.
+fn header(line: &Line) -> Option<Header>
+    ensures { result ≡ header_of (words_of line.now) }
 {
-    match *phrase {
-        Phrase::One(a) => sole(a),
-        Phrase::Two(a, b) => numbered(a, b),
-        Phrase::Four(a, b, c, d) => placed(a, b, c, d),
-        Phrase::Empty | Phrase::Three(..) | Phrase::Longer(..) => None,
-    }
-}
-
-/// The first word of a line.
-pub(crate) fn first<'a>(phrase: &Phrase<'a>) -> Option<&'a [u8]>
-    ensures { (words : List (List ℕ)) → IsPhrase phrase.now words → IsFirst result words }
-{
-    match *phrase {
-        Phrase::Empty => None,
-        Phrase::One(a)
-        | Phrase::Two(a, _)
-        | Phrase::Three(a, _, _)
-        | Phrase::Four(a, _, _, _)
-        | Phrase::Longer(a, _) => Some(a),
+    match line.words() {
+        (Some(a), None, ..) => sole(a),
+        (Some(a), Some(b), None, ..) => numbered(a, b),
+        (Some(a), Some(b), Some(c), Some(d), None) => placed(a, b, c, d),
+        _ => None,
     }
 }
 
 /// What a line is in the section that is in force.
-pub(crate) fn role(section: Option<Section>, phrase: &Phrase) -> Role
-    ensures { (words : List (List ℕ)) → IsPhrase phrase.now words → result ≡ role_of section words }
+pub(crate) fn role(section: Option<Section>, line: &Line) -> Role
+    ensures { result ≡ role_of section (words_of line.now) }
 {
-    let Some(word) = first(phrase) else {
+    let Some(word) = line.first() else {
         return Role::Skipped;
     };
     if word.starts_with(b"#") {
         return Role::Skipped;
     }
     if word.starts_with(b"[") {
-        return match header(phrase) {
+        return match header(line) {
             Some(header) => Role::Begins(header),
             None => Role::Astray,
         };

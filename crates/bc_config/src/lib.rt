@@ -3,17 +3,13 @@
 
 mod draft;
 mod header;
-mod option_line;
+mod line;
 mod options;
-mod phrase;
-mod query;
-mod record;
 mod refusal;
 mod section;
 mod setting;
 mod table;
 mod text;
-mod turn;
 
 pub use bc_history::{
     Asked, AskedList, ClockStates, Happening, Options, PortConfs, Record, RecordList, Scenario,
@@ -21,8 +17,8 @@ pub use bc_history::{
 };
 pub use options::{option_named, option_value};
 pub use refusal::Refusal;
-pub use setting::{set_clock_option, set_option, set_port_option};
-pub use table::{OPTIONS, OptionRow, row};
+pub use setting::{row, set_clock_option, set_option, set_port_option};
+pub use table::OptionRow;
 pub use text::scenario;
 pub use text_io::Reason;
 

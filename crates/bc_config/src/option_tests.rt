@@ -1,28 +1,16 @@
 use crate::*;
-use bc_history::{OptionName, Options, Scope};
+use bc_history::{NO_OPTIONS, Scope};
 use model_clock::ClockState;
-use ptp_base::{ClockId, PortConf};
+use ptp_base::PortConf;
 
 #[test]
 fn options_have_names(rt: HostRuntime) {
-    for (section, word, option) in [
-        (
-            Scope::Global,
-            b"clockIdentity".as_slice(),
-            Some(OptionName::ClockIdentity),
-        ),
-        (Scope::Global, b"seat_rows", Some(OptionName::SeatRows)),
-        (
-            Scope::Global,
-            b"logSyncInterval",
-            Some(OptionName::LogSyncInterval),
-        ),
-        (
-            Scope::Port,
-            b"announceReceiptTimeout",
-            Some(OptionName::AnnounceReceiptTimeout),
-        ),
-        (Scope::Clock, b"drift", Some(OptionName::Drift)),
+    for (section, word, number) in [
+        (Scope::Global, b"clockIdentity".as_slice(), Some(0)),
+        (Scope::Global, b"seat_rows", Some(22)),
+        (Scope::Global, b"logSyncInterval", Some(24)),
+        (Scope::Port, b"announceReceiptTimeout", Some(26)),
+        (Scope::Clock, b"drift", Some(28)),
         (Scope::Global, b"drift", None),
         (Scope::Port, b"priority1", None),
         (Scope::Port, b"time", None),
@@ -30,82 +18,78 @@ fn options_have_names(rt: HostRuntime) {
         (Scope::Global, b"Priority1", None),
         (Scope::Global, b"priority", None),
     ] {
-        assert_eq!(rt; option_named(section, word), option);
+        assert_eq!(rt; option_named(section, word), number);
     }
 }
 
 #[test]
 fn values_are_in_range(rt: HostRuntime) {
-    for (option, word, value) in [
+    for (section, name, word, value) in [
         (
-            OptionName::ClockIdentity,
+            Scope::Global,
+            b"clockIdentity".as_slice(),
             b"020000.fffe.000001".as_slice(),
             Some(0x0200_00ff_fe00_0001),
         ),
-        (OptionName::DomainNumber, b"127", Some(127)),
-        (OptionName::DomainNumber, b"128", None),
-        (OptionName::Priority1, b"-0", None),
-        (OptionName::ClockAccuracy, b"0xfE", Some(254)),
-        (OptionName::ClockAccuracy, b"254", Some(254)),
-        (OptionName::ClockAccuracy, b"0x0fe", None),
-        (OptionName::OffsetScaledLogVariance, b"0xFFFF", Some(65535)),
-        (OptionName::MaxFrequency, b"0", None),
-        (OptionName::StepThreshold, b"0.0", Some(0)),
-        (OptionName::FirstStepThreshold, b"0.00002", Some(20_000)),
-        (OptionName::Window, b"0.001", Some(1_000_000)),
-        (OptionName::Window, b"0.000999999", None),
-        (OptionName::Duration, b"100000", Some(100_000_000_000_000)),
-        (OptionName::Duration, b"100000.000000001", None),
-        (OptionName::AnnounceReceiptTimeout, b"1", None),
-        (OptionName::LogSyncInterval, b"-7", Some(-7)),
-        (OptionName::LogSyncInterval, b"-8", None),
+        (Scope::Global, b"domainNumber", b"127", Some(127)),
+        (Scope::Global, b"domainNumber", b"128", None),
+        (Scope::Global, b"priority1", b"-0", None),
+        (Scope::Global, b"clockAccuracy", b"0xfE", Some(254)),
+        (Scope::Global, b"clockAccuracy", b"254", Some(254)),
+        (Scope::Global, b"clockAccuracy", b"0x0fe", None),
         (
-            OptionName::Time,
+            Scope::Global,
+            b"offsetScaledLogVariance",
+            b"0xFFFF",
+            Some(65535),
+        ),
+        (Scope::Global, b"max_frequency", b"0", None),
+        (Scope::Global, b"step_threshold", b"0.0", Some(0)),
+        (
+            Scope::Global,
+            b"first_step_threshold",
+            b"0.00002",
+            Some(20_000),
+        ),
+        (Scope::Global, b"window", b"0.001", Some(1_000_000)),
+        (Scope::Global, b"window", b"0.000999999", None),
+        (
+            Scope::Global,
+            b"duration",
+            b"100000",
+            Some(100_000_000_000_000),
+        ),
+        (Scope::Global, b"duration", b"100000.000000001", None),
+        (Scope::Port, b"announceReceiptTimeout", b"1", None),
+        (Scope::Port, b"logSyncInterval", b"-7", Some(-7)),
+        (Scope::Port, b"logSyncInterval", b"-8", None),
+        (
+            Scope::Clock,
+            b"time",
             b"8589934591999999999",
             Some(8_589_934_591_999_999_999),
         ),
-        (OptionName::Time, b"8589934592000000000", None),
-        (OptionName::Drift, b"-0", Some(0)),
-        (OptionName::Drift, b"-10000000", Some(-10_000_000)),
-        (OptionName::Drift, b"-10000001", None),
+        (Scope::Clock, b"time", b"8589934592000000000", None),
+        (Scope::Clock, b"drift", b"-0", Some(0)),
+        (Scope::Clock, b"drift", b"-10000000", Some(-10_000_000)),
+        (Scope::Clock, b"drift", b"-10000001", None),
     ] {
-        assert_eq!(rt; option_value(option, word), value);
+        assert_eq!(rt; value_named(section, name, word), value);
     }
 }
 
-fn nothing() -> Options {
-    Options {
-        clock_identity: ClockId { id: 0 },
-        domain_number: 0,
-        priority1: 0,
-        priority2: 0,
-        clock_class: 0,
-        clock_accuracy: 0,
-        offset_scaled_log_variance: 0,
-        utc_offset: 0,
-        time_flags: 0,
-        time_source: 0,
-        boundary_clock_jbod: false,
-        max_frequency: 0,
-        step_threshold: 0,
-        first_step_threshold: 0,
-        servo_kp: 0,
-        servo_ki: 0,
-        delay_filter_length: 0,
-        duration: 0,
-        window: 0,
-        follow_interval: 0,
-        subscribe_duration: 0,
-        subscribe_renew: 0,
-        seat_rows: 0,
-    }
+/// The value that a word stands for as one of an option that is named.
+fn value_named(section: Scope, name: &[u8], word: &[u8]) -> Option<i128> {
+    option_value(option_named(section, name)?, word)
 }
 
 #[test]
 fn options_are_set(rt: HostRuntime) {
-    let mut options = nothing();
-    if let Some(value) = option_value(OptionName::Duration, b"6.5") {
-        set_option(&mut options, OptionName::Duration, value);
+    let mut options = NO_OPTIONS;
+    if let Some(number) = option_named(Scope::Global, b"duration")
+        && let Some(value) = option_value(number, b"6.5")
+    {
+        set_option(&mut options, number, value);
     }
     assert_eq!(rt; options.duration, 6_500_000_000);
     let mut port = PortConf {
@@ -115,8 +99,10 @@ fn options_are_set(rt: HostRuntime) {
         log_delay: 0,
         receipt: 3,
     };
-    if let Some(value) = option_value(OptionName::LogAnnounceInterval, b"-3") {
-        set_port_option(&mut port, OptionName::LogAnnounceInterval, value);
+    if let Some(number) = option_named(Scope::Port, b"logAnnounceInterval")
+        && let Some(value) = option_value(number, b"-3")
+    {
+        set_port_option(&mut port, number, value);
     }
     assert_eq!(rt; port.log_announce, -3);
     let mut clock = ClockState {
@@ -125,15 +111,23 @@ fn options_are_set(rt: HostRuntime) {
         freq: 0,
         drift: 0,
     };
-    if let Some(value) = option_value(OptionName::Drift, b"-2") {
-        set_clock_option(&mut clock, OptionName::Drift, value);
+    if let Some(number) = option_named(Scope::Clock, b"drift")
+        && let Some(value) = option_value(number, b"-2")
+    {
+        set_clock_option(&mut clock, number, value);
     }
     assert_eq!(rt; clock.drift, -131_072);
 }
 
 #[test]
 fn rows_have_defaults(rt: HostRuntime) {
-    let row = row(OptionName::FollowInterval);
-    assert_eq!(rt; row.default, 1_000_000_000);
-    assert_eq!(rt; OPTIONS.len(), 29);
+    assert_eq!(rt; default_named(b"follow_interval"), Some(1_000_000_000));
+    assert!(rt; row(28).is_some());
+    assert!(rt; row(29).is_none());
+}
+
+/// The default of an option of `[global]`.
+fn default_named(name: &[u8]) -> Option<i128> {
+    let row = row(option_named(Scope::Global, name)?)?;
+    Some(row.default)
 }

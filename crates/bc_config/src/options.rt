@@ -1,12 +1,14 @@
 ghost use Rattle.std.specs.Prelude.{◌≡◌, IfSome};
-ghost use Rattle.bc_history.specs.OptionTable.{takes, is_named, option_named, read_as, value_of};
-ghost use Rattle.bc_config.specs.Ranges.{IsInRange, HasRoom};
+ghost use Rattle.bc_history.specs.Scenario.OptionTable.{takes, is_named, option_named, read_as, value_of};
+ghost use Rattle.bc_config.specs.OptionRanges.{IsInRange, HasRoom};
 
-use crate::table::{OPTIONS, row};
-use bc_history::{Form, OptionName, Scope};
+use crate::setting::row;
+use crate::table::OptionRow;
+use bc_history::{Form, Scope};
 use text_io::{hex_number, identity, number, seconds, signed};
 
-/// Whether a section takes the options of a scope: its own, and the global one also those of a port.
+/// Whether a section takes the options of a scope: its own, and the global one also those of a
+/// port.
 fn takes(section: Scope, scope: Scope) -> bool
     ensures { result ≡ takes section scope }
 {
@@ -18,21 +20,26 @@ fn takes(section: Scope, scope: Scope) -> bool
     }
 }
 
-fn is_named(section: Scope, word: &[u8], option: OptionName) -> bool
-    ensures { result ≡ is_named section word.now option }
+/// Whether a word names an option in a section.
+fn is_named(section: Scope, word: &[u8], row: &OptionRow) -> bool
+    ensures { result ≡ is_named section word.now row.now }
 {
-    let row = row(option);
     takes(section, row.scope) && word == row.name
 }
 
-/// The option that a word names in a section: none where the section has no such option.
-pub fn option_named(section: Scope, word: &[u8]) -> Option<OptionName>
+/// The number of the option that a word names in a section: none where the section has no such
+/// option.
+pub fn option_named(section: Scope, word: &[u8]) -> Option<usize>
     ensures { result ≡ option_named section word.now }
 {
-    OPTIONS
-        .iter()
-        .copied()
-        .find(|option| is_named(section, word, *option))
+    let mut number = 0;
+    while let Some(row) = row(number) {
+        if is_named(section, word, &row) {
+            return Some(number);
+        }
+        number += 1;
+    }
+    None
 }
 
 /// A word as a value of a form, whatever its range.
@@ -52,15 +59,15 @@ fn read_as(form: Form, word: &[u8]) -> Option<i128>
     }
 }
 
-/// The value that a word stands for, in ns, ppb or as the option counts: none where it is not of the
-/// option's form, or out of its range.
-pub fn option_value(option: OptionName, word: &[u8]) -> Option<i128>
-    ensures value { result ≡ value_of option word.now }
-    ensures range { IfSome result (λ value. IsInRange option value) }
+/// The value that a word stands for, in ns, ppb or as the option counts: none where it is not of
+/// the option's form, or out of its range.
+pub fn option_value(number: usize, word: &[u8]) -> Option<i128>
+    ensures value { result ≡ value_of number word.now }
+    ensures range { IfSome result (λ value. IsInRange number value) }
 {
-    let row = row(option);
+    let row = row(number)?;
     match read_as(row.form, word) {
-        Some(value) if row.least <= value && value <= row.most => Some(value),
+        Some(value) if row.has(value) => Some(value),
         _ => None,
     }
 }

@@ -1,5 +1,5 @@
-ghost use Rattle.std.specs.Prelude.{◌≡◌};
-ghost use Rattle.bc_config.specs.declared.refusal.LineError.TheVariants.{NoMemory as NoRoom};
+ghost use Rattle.std.specs.Prelude.{◌≡◌, true, false, OnOk, IfErr};
+ghost use Rattle.bc_config.specs.declared.refusal.LineError.TheVariants.{Fault, NoMemory as NoRoom};
 
 use ptp_base::NoMemory;
 use text_io::Reason;
@@ -17,7 +17,9 @@ pub enum Refusal {
 /// Why a line was not taken.
 #[derive(Clone, Copy, Debug, PartialEq, Eq)]
 pub(crate) enum LineError {
+    /// What is wrong first with it.
     Fault(Reason),
+    /// Memory ran out.
     NoMemory,
 }
 
@@ -26,5 +28,17 @@ impl From<NoMemory> for LineError {
 
     fn from(_e: NoMemory) -> LineError {
         LineError::NoMemory
+    }
+}
+
+/// Refuses a line for a reason, if what would be wrong with it is so.
+pub(crate) fn refuse_if(wrong: bool, reason: Reason) -> Result<(), LineError>
+    ensures ok { OnOk result (wrong ≡ false) }
+    ensures err { IfErr result (λ e. (wrong ≡ true) × (e ≡ Fault reason)) }
+{
+    if wrong {
+        Err(LineError::Fault(reason))
+    } else {
+        Ok(())
     }
 }

@@ -1,53 +1,13 @@
-ghost use Rattle.std.specs.Prelude.{◌≡◌, ◌<◌, ◌≤◌, ◌+◌, ℕ, List, None, Some, OnOk, IfOk, IfErr, length};
-ghost use Rattle.text_io.specs.Lines.{words_of, lines_of_text, is_printable};
-ghost use Rattle.bc_history.specs.ScenarioText.{first_of, tests_of, with_role, fault, with_line, end_fault, Stands};
-ghost use Rattle.bc_config.specs.Phrases.{IsPhrase};
-ghost use Rattle.bc_config.specs.Telling.{Tells};
-ghost use Rattle.bc_config.specs.Refusing.{IsRefusedBy, refusal_at};
+ghost use Rattle.std.specs.Prelude.{◌≡◌, ◌<◌, ◌≤◌, ◌+◌, None, Some, IfOk, IfErr, length};
+ghost use Rattle.text_io.specs.TextLines.{lines_of_text};
+ghost use Rattle.bc_history.specs.Scenario.LineFaults.{fault, with_line, end_fault, Stands};
+ghost use Rattle.bc_config.specs.Refusal.{IsRefusedBy, refusal_at};
 
 use crate::draft::Draft;
-use crate::header::role;
-use crate::phrase::{Phrase, phrase_of};
 use crate::refusal::{LineError, Refusal};
-use bc_history::{Role, Scenario, Section};
+use bc_history::Scenario;
 use std::alloc::Global;
-use text_io::{Reason, is_printable, lines_in};
-
-impl Draft {
-    /// Takes a line in its role.
-    fn take_in_role(
-        &mut self,
-        alloc: Global,
-        line: &[u8],
-        role: Role,
-        phrase: &Phrase,
-    ) -> Result<(), LineError>
-        requires { IsPhrase phrase.now (words_of line.now) }
-        ensures ok { OnOk result ((first_of (tests_of self.old (is_printable line.now) (words_of line.now) role) ≡ None) × (self.new ≡ with_role self.old (words_of line.now) role)) }
-        ensures err { IfErr result (λ e. Tells e (first_of (tests_of self.old (is_printable line.now) (words_of line.now) role))) }
-    {
-        let good = is_printable(line);
-        match role {
-            Role::Skipped => Ok(()),
-            Role::Astray => Err(LineError::Fault(Reason::Section)),
-            Role::Begins(header) => self.begin(header, good),
-            Role::Says(Section::Options(scope)) => self.take_option(scope, phrase, good),
-            Role::Says(Section::Records) => self.take_record(alloc, phrase, good),
-            Role::Says(Section::Queries) => self.take_query(alloc, line, good),
-            Role::Says(Section::Schedule) => self.take_turns(phrase, good),
-        }
-    }
-
-    /// Takes a line.
-    fn take_line(&mut self, alloc: Global, line: &[u8]) -> Result<(), LineError>
-        ensures ok { OnOk result ((fault self.old line.now ≡ None) × (self.new ≡ with_line self.old line.now)) }
-        ensures err { IfErr result (λ e. Tells e (fault self.old line.now)) }
-    {
-        let phrase = phrase_of(line);
-        let role = role(self.section, &phrase);
-        self.take_in_role(alloc, line, role, &phrase)
-    }
-}
+use text_io::lines_in;
 
 /// The refusal of a line that was not taken.
 fn refused(line: u32, error: LineError) -> Refusal
@@ -56,19 +16,6 @@ fn refused(line: u32, error: LineError) -> Refusal
     match error {
         LineError::Fault(reason) => Refusal::Line { line, reason },
         LineError::NoMemory => Refusal::NoMemory,
-    }
-}
-
-impl Draft {
-    /// What is wrong behind the last line.
-    fn end_fault(&self) -> Option<Reason>
-        ensures { result ≡ end_fault self.now }
-    {
-        if self.ports.len() == 0 {
-            Some(Reason::Section)
-        } else {
-            None
-        }
     }
 }
 

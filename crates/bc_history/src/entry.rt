@@ -1,5 +1,5 @@
 use ptp_base::{Items, Octets, PortId, PortState};
-use ptp_profile::management::{Answers, AskError};
+use ptp_management::{Answers, AskError};
 use ptp_profile::{Action, Fate, Held, Lead, Logs, Measure, RoleOrder, Timer};
 
 /// What an exchange gave.
@@ -18,8 +18,11 @@ pub enum Outcome {
 /// What a clock read at the input's tick, in ns, and its frequency, after so many entries of its log.
 #[derive(Clone, Copy, Debug, PartialEq, Eq)]
 pub struct Seen {
+    /// How many entries the log has.
     pub number: u32,
+    /// The clock's time, in ns, 0 to `TIME_MAX`.
     pub value: i64,
+    /// The clock's frequency, in ppb times 65,536.
     pub freq: i64,
 }
 
@@ -81,22 +84,29 @@ pub enum Input {
 /// A change of a port's state.
 #[derive(Clone, Copy, Debug, PartialEq, Eq)]
 pub struct Moved {
+    /// The port's number, from 1.
     pub port: u16,
+    /// The state before.
     pub old: PortState,
+    /// The state after, which is another one.
     pub new: PortState,
 }
 
 /// A frame that a port sent.
 #[derive(Debug, Drop)]
 pub struct Sent {
+    /// The port's number, from 1.
     pub port: u16,
+    /// The octets of the frame.
     pub octets: Octets,
 }
 
 /// What a follower was told at its turn, and how many notices it missed.
 #[derive(Clone, Copy, Debug, PartialEq, Eq)]
 pub struct Told {
+    /// What the follower is to copy; none where its clock copies nobody.
     pub lead: Option<Lead>,
+    /// How many notices it missed.
     pub missed: u32,
 }
 
@@ -135,26 +145,32 @@ pub struct Effects {
 /// An element of the history.
 #[derive(Debug, Drop)]
 pub struct Entry {
+    /// What came to the hub.
     pub input: Input,
     /// The greatest tick of the entries so far, this one included.
     pub moment: u64,
     /// The reading of the port's clock, for a frame and a timer.
     pub seen: Option<Seen>,
+    /// What followed from it.
     pub effects: Effects,
 }
 
 /// A finished run: its history, the oldest entry first, and the log of each clock.
 #[derive(Debug, Drop)]
 pub struct Run {
+    /// The history, the oldest entry first.
     pub entries: Entries,
+    /// The log of each clock, by rising clock.
     pub logs: Logs,
 }
 
 /// An actor of a run.
 #[derive(Clone, Copy, Debug, PartialEq, Eq)]
 pub enum Who {
+    /// A port, by its number, from 1.
     Port(u16),
     /// The follower of a clock.
     Follower(u8),
+    /// What asks the queries of the scenario.
     Queries,
 }

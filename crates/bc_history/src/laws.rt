@@ -3,22 +3,22 @@ ghost use Rattle.ptp_profile.specs.declared.timing.Action.{Action};
 ghost use Rattle.ptp_profile.specs.declared.timing.Action.TheVariants.{Unlocked};
 ghost use Rattle.ptp_profile.specs.declared.seats.Held.{Held};
 ghost use Rattle.ptp_profile.specs.declared.seats.LogEntry.{LogEntry};
-ghost use Rattle.ptp_profile.specs.Forest.{IsForest, ctrls_after};
-ghost use Rattle.ptp_profile.specs.Roles.{AtMostOneFollows, edges_of};
+ghost use Rattle.ptp_profile.specs.Roles.Forest.{IsForest, ctrls_after};
+ghost use Rattle.ptp_profile.specs.Roles.Edges.{AtMostOneFollows, edges_of};
 ghost use Rattle.bc_history.specs.declared.entry.Entry.{Entry};
 ghost use Rattle.bc_history.specs.declared.entry.Input.{Input};
 ghost use Rattle.bc_history.specs.declared.entry.Seen.{Seen};
 ghost use Rattle.bc_history.specs.declared.scenario.Scenario.{Scenario};
-ghost use Rattle.bc_history.specs.EffectKinds.{TellsByKind, is_there};
-ghost use Rattle.bc_history.specs.Effects.{entry_after};
-ghost use Rattle.bc_history.specs.History.{IsHistory, IsFinished, Follows};
-ghost use Rattle.bc_history.specs.Inputs.{is_read, tick_of};
-ghost use Rattle.bc_history.specs.Outcomes.{Agrees, IsHolder, exchanged};
-ghost use Rattle.bc_history.specs.Ports.{ArePortsOf};
-ghost use Rattle.bc_history.specs.RolePhase.{clocks_of, states_of};
-ghost use Rattle.bc_history.specs.ScenarioRules.{IsScenario};
-ghost use Rattle.bc_history.specs.Step.{state_of};
-ghost use Rattle.bc_history.specs.World.{End, IsEnd};
+ghost use Rattle.bc_history.specs.Phases.EffectKinds.{TellsByKind, is_there};
+ghost use Rattle.bc_history.specs.Phases.EntryEffects.{entry_after};
+ghost use Rattle.bc_history.specs.Run.History.{IsHistory, IsFinished, Follows};
+ghost use Rattle.bc_history.specs.Phases.Inputs.{is_read, tick_of};
+ghost use Rattle.bc_history.specs.Run.ExchangeOutcomes.{Agrees, IsHolder, exchange_result};
+ghost use Rattle.bc_history.specs.Phases.PortIdentities.{ArePortsOf};
+ghost use Rattle.bc_history.specs.Phases.RolePhase.{clocks_of, states_of};
+ghost use Rattle.bc_history.specs.Scenario.ScenarioRules.{IsScenario};
+ghost use Rattle.bc_history.specs.Phases.Step.{state_of};
+ghost use Rattle.bc_history.specs.Run.World.{End, IsEnd};
 
 /// After every list of entries at most one port is UNCALIBRATED or SLAVE.
 pub fn at_most_one_follows()
@@ -89,6 +89,6 @@ pub fn nothing_follows_the_end()
 pub fn exchanges_agree()
     ensures { (rows : ℕ) (held : Held) (tick : ℕ) (action : Action) (log : List LogEntry)
         → action ≢ Unlocked → IsHolder log held
-        → Agrees rows (exchanged rows held tick action log).1 held tick action
-        (exchanged rows held tick action log).0 }
+        → Agrees rows (exchange_result rows held tick action log).1 held tick action
+        (exchange_result rows held tick action log).0 }
 {}

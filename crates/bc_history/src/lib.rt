@@ -26,15 +26,15 @@ pub use laws::{
     entries_tell_by_their_kind, exchanges_agree, has_one_end, moments_never_fall,
     nothing_follows_the_end, ports_stay, readings_come_with_frames_and_timers,
 };
-pub use option::{Form, OptionName, Scope};
+pub use option::{Form, Scope};
 pub use option_laws::{defaults_are_of_the_table, options_are_named};
 pub use port_input::{EventContext, PortEntry, PortHappening, PortInput};
+pub use ptp_management::{Answers, AskError};
 pub use ptp_profile::Logs;
-pub use ptp_profile::management::{Answers, AskError};
 pub use rule_laws::scenarios_keep_the_rules;
 pub use scenario::{
-    Asked, AskedList, ClockStates, Happening, Options, PortConfs, Record, RecordList, Scenario,
-    Turner, Turns, TurnsList,
+    Asked, AskedList, ClockStates, Happening, NO_OPTIONS, Options, PortConfs, Record, RecordList,
+    Scenario, Turner, Turns, TurnsList,
 };
 pub use section::{Header, Role, Section};
 pub use text_laws::{

@@ -1,37 +1,3 @@
-/// The options of a scenario text.
-#[derive(Clone, Copy, Debug, PartialEq, Eq)]
-pub enum OptionName {
-    ClockIdentity,
-    DomainNumber,
-    Priority1,
-    Priority2,
-    ClockClass,
-    ClockAccuracy,
-    OffsetScaledLogVariance,
-    UtcOffset,
-    TimeFlags,
-    TimeSource,
-    BoundaryClockJbod,
-    MaxFrequency,
-    StepThreshold,
-    FirstStepThreshold,
-    ServoKp,
-    ServoKi,
-    DelayFilterLength,
-    Duration,
-    Window,
-    FollowInterval,
-    SubscribeDuration,
-    SubscribeRenew,
-    SeatRows,
-    LogAnnounceInterval,
-    LogSyncInterval,
-    LogMinDelayReqInterval,
-    AnnounceReceiptTimeout,
-    Time,
-    Drift,
-}
-
 /// How the value of an option is written.
 #[derive(Clone, Copy, Debug, PartialEq, Eq)]
 pub enum Form {
@@ -50,7 +16,10 @@ pub enum Form {
 /// What an option is one of: the whole, a clock or a port.
 #[derive(Clone, Copy, Debug, PartialEq, Eq)]
 pub enum Scope {
+    /// All ports and clocks.
     Global,
+    /// One clock.
     Clock,
+    /// One port.
     Port,
 }

@@ -29,12 +29,14 @@ pub struct PortInput {
     pub number: u16,
     /// When, in ns of the scenario.
     pub tick: u64,
+    /// What happens to the port.
     pub what: PortHappening,
 }
 
 /// An entry of a port: its input, and what the hub found for it.
 #[derive(Debug, Drop)]
 pub struct PortEntry {
+    /// The port's input.
     pub input: PortInput,
     /// The port's clock with the stamp that its last order gave it.
     pub held: Held,

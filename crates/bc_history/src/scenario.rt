@@ -1,4 +1,4 @@
-ghost use Rattle.bc_history.specs.ScenarioRules.{IsScenario};
+ghost use Rattle.bc_history.specs.Scenario.ScenarioRules.{IsScenario};
 
 use model_clock::ClockState;
 use ptp_base::{ClockId, Items, Octets, PortConf};
@@ -66,6 +66,33 @@ pub struct Options {
     pub seat_rows: u32,
 }
 
+/// Options of which none is set yet. The table of options has what each is where a text names none.
+pub const NO_OPTIONS: Options = Options {
+    clock_identity: ClockId { id: 0 },
+    domain_number: 0,
+    priority1: 0,
+    priority2: 0,
+    clock_class: 0,
+    clock_accuracy: 0,
+    offset_scaled_log_variance: 0,
+    utc_offset: 0,
+    time_flags: 0,
+    time_source: 0,
+    boundary_clock_jbod: false,
+    max_frequency: 0,
+    step_threshold: 0,
+    first_step_threshold: 0,
+    servo_kp: 0,
+    servo_ki: 0,
+    delay_filter_length: 0,
+    duration: 0,
+    window: 0,
+    follow_interval: 0,
+    subscribe_duration: 0,
+    subscribe_renew: 0,
+    seat_rows: 0,
+};
+
 /// What happens to a port from outside.
 #[derive(Debug, Drop)]
 pub enum Happening {
@@ -80,15 +107,20 @@ pub enum Happening {
 /// What happens to a port, and at which tick.
 #[derive(Debug, Drop)]
 pub struct Record {
+    /// The port's number, from 1.
     pub port: u16,
+    /// When, in ns, at most `TICK_MAX`.
     pub tick: u64,
+    /// What happens.
     pub what: Happening,
 }
 
 /// A management query and its tick.
 #[derive(Debug, Drop)]
 pub struct Asked {
+    /// When, in ns, at most `TICK_MAX`.
     pub tick: u64,
+    /// The text of the query.
     pub text: Octets,
 }
 
@@ -97,16 +129,20 @@ pub struct Asked {
 pub enum Turner {
     /// The actor that the default rule names.
     Default,
+    /// A port, by its number, from 1.
     Port(u16),
     /// The follower of a clock.
     Clock(u8),
+    /// What asks the queries of the scenario.
     Queries,
 }
 
 /// So many turns in a row.
 #[derive(Clone, Copy, Debug, PartialEq, Eq)]
 pub struct Turns {
+    /// Whose turns they are.
     pub who: Turner,
+    /// How many.
     pub count: u32,
 }
 
@@ -115,20 +151,26 @@ pub struct Turns {
 /// ports that it has, and ticks don't fall.
 #[derive(Debug, Drop)]
 pub struct Scenario {
+    /// The options of the whole.
     pub options: Options,
+    /// 1 to `CLOCKS_MAX` clocks.
     pub clocks: ClockStates,
+    /// 1 to `PORTS_MAX` ports.
     pub ports: PortConfs,
+    /// What happens to the ports, by rising tick.
     pub records: RecordList,
+    /// What is asked, by rising tick.
     pub queries: AskedList,
+    /// Whose turns they are, in order; the default rule names the others.
     pub turns: TurnsList,
 }
 
 impl Model for Scenario {
-    ghost use Rattle.bc_history.specs.Scenarios.{Scenario as Said};
+    ghost use Rattle.bc_history.specs.Scenario.Scenario.{Scenario as Said};
 
     ghost Value = { Said };
 
-    ghost use Rattle.bc_history.specs.ScenarioRules.{IsScenario, said};
+    ghost use Rattle.bc_history.specs.Scenario.ScenarioRules.{IsScenario, said};
 
     ghost view = { said };
 

@@ -5,20 +5,28 @@ use crate::option::Scope;
 pub enum Section {
     /// Options of the whole, of a clock or of a port.
     Options(Scope),
+    /// What happens to ports.
     Records,
+    /// Management queries.
     Queries,
+    /// Whose turns they are.
     Schedule,
 }
 
 /// A line that begins a section. Numbers are those of the text, below 10^20.
 #[derive(Clone, Copy, Debug, PartialEq, Eq)]
 pub enum Header {
+    /// The options of the whole.
     Global,
+    /// A clock, by its number.
     Clock(u128),
     /// A port and the clock that it is on.
     Port { number: u128, clock: u128 },
+    /// What happens to ports.
     Records,
+    /// Management queries.
     Queries,
+    /// Whose turns they are.
     Schedule,
 }
 
@@ -29,6 +37,8 @@ pub enum Role {
     Skipped,
     /// It begins with a bracket and is no header, or stands in no section.
     Astray,
+    /// It begins a section.
     Begins(Header),
+    /// It says something in a section of this kind.
     Says(Section),
 }

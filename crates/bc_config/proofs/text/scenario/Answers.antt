@@ -1,7 +1,7 @@
 use Rattle.std.proofs.Common.{refl, sym, arith}
-use Rattle.bc_history.specs.Drafts.{scenario_of}
-use Rattle.bc_history.proofs.Rules.{scenario_keeps}
-use Rattle.bc_config.proofs.Reading.{step, refused, end_faulty, stands, number_fits}
+use Rattle.bc_history.specs.Scenario.Draft.{scenario_of}
+use Rattle.bc_history.proofs.lemmas.ScenarioRuleLemmas.{scenario_keeps}
+use Rattle.bc_config.proofs.lemmas.LineReadingLemmas.{step, refused, end_faulty, stands, number_fits}
 use Rattle.bc_config.proofs.text.scenario.Goals as goal
 
 pub overflow_add-number : goal.overflow_add-number

@@ -1,5 +1,5 @@
 use Rattle.std.proofs.Common.{length}
-use Rattle.bc_config.proofs.Reading.{IsReadTo}
+use Rattle.bc_config.proofs.lemmas.LineReadingLemmas.{IsReadTo}
 use Rattle.bc_config.proofs.text.scenario.Given as goal
 
 abbrev pub invariant-loop-line : goal.invariant-loop-line

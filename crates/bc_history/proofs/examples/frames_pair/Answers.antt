@@ -1,18 +1,18 @@
 use Rattle.std.proofs.Common.{refl}
-use Rattle.ptp_profile.specs.Wire.{number_at, written}
-use Rattle.bc_history.specs.World.{status_after}
-use Rattle.bc_history.specs.Step.{step, state_of}
-use Rattle.bc_history.specs.PortPhase.{after_port}
-use Rattle.bc_history.specs.DecisionPhase.{with_codes, after_hearing}
-use Rattle.bc_history.specs.RolePhase.{after_roles}
-use Rattle.bc_history.specs.NoticePhase.{after_turn}
-use Rattle.bc_history.specs.Effects.{effects_of, entry_after}
+use Rattle.ptp_profile.specs.Wire.MessageFormat.{number_at, message_octets}
+use Rattle.bc_history.specs.Run.World.{status_after}
+use Rattle.bc_history.specs.Phases.Step.{step, state_of}
+use Rattle.bc_history.specs.Phases.PortPhase.{after_port}
+use Rattle.bc_history.specs.Phases.DecisionPhase.{with_codes, after_hearing}
+use Rattle.bc_history.specs.Phases.RolePhase.{after_roles}
+use Rattle.bc_history.specs.Phases.NoticePhase.{after_turn}
+use Rattle.bc_history.specs.Phases.EntryEffects.{effects_of, entry_after}
 use Rattle.bc_history.proofs.examples.frames_pair.Goals as goal
 
 pub returns-clause-syncs : goal.returns-clause-syncs
-unfolding number_at written status_after step state_of after_port with_codes after_hearing after_roles after_turn effects_of entry_after
+unfolding number_at message_octets status_after step state_of after_port with_codes after_hearing after_roles after_turn effects_of entry_after
 returns-clause-syncs c = refl
 
 pub returns-clause-responses : goal.returns-clause-responses
-unfolding number_at written status_after step state_of after_port with_codes after_hearing after_roles after_turn effects_of entry_after
+unfolding number_at message_octets status_after step state_of after_port with_codes after_hearing after_roles after_turn effects_of entry_after
 returns-clause-responses c = refl

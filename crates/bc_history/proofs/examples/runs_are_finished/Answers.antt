@@ -6,31 +6,31 @@ use Rattle.bc_history.specs.declared.entry.Input.TheVariants.{Sampled}
 use Rattle.bc_history.specs.declared.entry.Outcome.{Outcome}
 use Rattle.bc_history.specs.declared.entry.Seen.{Seen}
 use Rattle.bc_history.specs.declared.scenario.Scenario.{Scenario}
-use Rattle.bc_history.specs.Next.{IsDue}
-use Rattle.bc_history.specs.State.{Follower, State, TickLead}
-use Rattle.ptp_profile.specs.Wire.{number_at, written}
-use Rattle.bc_history.specs.World.{status_after}
-use Rattle.bc_history.specs.Step.{step, state_of}
-use Rattle.bc_history.specs.PortPhase.{after_port}
-use Rattle.bc_history.specs.DecisionPhase.{with_codes, after_hearing}
-use Rattle.bc_history.specs.RolePhase.{after_roles}
-use Rattle.bc_history.specs.NoticePhase.{after_turn}
-use Rattle.bc_history.specs.Effects.{effects_of, entry_after}
-use Rattle.bc_history.specs.Examples.{history_before, realistic}
-use Rattle.bc_history.specs.Silent.{silent}
-use Rattle.bc_history.proofs.FinishedTest.{finished-from_test}
+use Rattle.bc_history.specs.Run.NextInputs.{IsDue}
+use Rattle.bc_history.specs.Phases.State.{Follower, State, TickLead}
+use Rattle.ptp_profile.specs.Wire.MessageFormat.{number_at, message_octets}
+use Rattle.bc_history.specs.Run.World.{status_after}
+use Rattle.bc_history.specs.Phases.Step.{step, state_of}
+use Rattle.bc_history.specs.Phases.PortPhase.{after_port}
+use Rattle.bc_history.specs.Phases.DecisionPhase.{with_codes, after_hearing}
+use Rattle.bc_history.specs.Phases.RolePhase.{after_roles}
+use Rattle.bc_history.specs.Phases.NoticePhase.{after_turn}
+use Rattle.bc_history.specs.Phases.EntryEffects.{effects_of, entry_after}
+use Rattle.bc_history.specs.Run.RunExamples.{history_before, realistic}
+use Rattle.bc_history.specs.Scenario.Defaults.{silent}
+use Rattle.bc_history.proofs.lemmas.FinishedLemmas.{finished-from_test}
 use Rattle.bc_history.proofs.examples.runs_are_finished.Goals as goal
 
 pub returns-clause-silent : goal.returns-clause-silent
-unfolding number_at written status_after step state_of after_port with_codes after_hearing after_roles after_turn effects_of entry_after
+unfolding number_at message_octets status_after step state_of after_port with_codes after_hearing after_roles after_turn effects_of entry_after
 returns-clause-silent c = finished-from_test (silent 6 2) (history_before 0 (silent 6 2) 3) refl
 
 pub returns-clause-second : goal.returns-clause-second
-unfolding number_at written status_after step state_of after_port with_codes after_hearing after_roles after_turn effects_of entry_after
+unfolding number_at message_octets status_after step state_of after_port with_codes after_hearing after_roles after_turn effects_of entry_after
 returns-clause-second c = ((refl, refl), omega arith)
 
 pub returns-clause-copied : goal.returns-clause-copied
-unfolding number_at written status_after step state_of after_port with_codes after_hearing after_roles after_turn effects_of entry_after
+unfolding number_at message_octets status_after step state_of after_port with_codes after_hearing after_roles after_turn effects_of entry_after
 returns-clause-copied c = finished-from_test realistic (history_before 0 realistic 60) refl
 
 -- what a follower is to copy, by a test
@@ -67,7 +67,7 @@ sampled s h clock l is le theirs own action outcome = (by (slice_get h.followers
 
 -- the follower of clock 1 is to copy clock 0 at 8 s
 copies : is_copying 8000000000 2 0 (lead_at (state_of realistic (history_before 1 realistic 60)) 1) ≡ true
-unfolding number_at written status_after step state_of after_port with_codes after_hearing after_roles after_turn effects_of entry_after
+unfolding number_at message_octets status_after step state_of after_port with_codes after_hearing after_roles after_turn effects_of entry_after
 copies = refl
 
 pub returns-clause-sampled : goal.returns-clause-sampled

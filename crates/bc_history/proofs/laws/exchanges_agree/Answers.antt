@@ -1,4 +1,4 @@
-use Rattle.bc_history.proofs.Exchanges.{exchange_agrees}
+use Rattle.bc_history.proofs.lemmas.ExchangeLemmas.{exchange_agrees}
 use Rattle.bc_history.proofs.laws.exchanges_agree.Goals as goal
 
 pub returns : goal.returns

@@ -1,4 +1,4 @@
-use Rattle.bc_history.proofs.Ends.{one_end}
+use Rattle.bc_history.proofs.lemmas.EndLemmas.{one_end}
 use Rattle.bc_history.proofs.laws.has_one_end.Goals as goal
 
 pub returns : goal.returns

@@ -1,4 +1,4 @@
-use Rattle.bc_history.proofs.PortIdentities.{ports_stay}
+use Rattle.bc_history.proofs.lemmas.PortIdentityLemmas.{ports_stay}
 use Rattle.bc_history.proofs.laws.ports_stay.Goals as goal
 
 pub returns : goal.returns

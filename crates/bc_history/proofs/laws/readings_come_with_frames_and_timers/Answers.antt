@@ -1,4 +1,4 @@
-use Rattle.bc_history.proofs.Moments.{read_follows, unread_follows}
+use Rattle.bc_history.proofs.lemmas.MomentLemmas.{read_follows, unread_follows}
 use Rattle.bc_history.proofs.laws.readings_come_with_frames_and_timers.Goals as goal
 
 pub returns : goal.returns

@@ -1,4 +1,4 @@
-use Rattle.bc_history.proofs.OptionLaws.{options_default, ports_default, clocks_default}
+use Rattle.bc_history.proofs.lemmas.OptionTableLemmas.{options_default, ports_default, clocks_default}
 use Rattle.bc_history.proofs.option_laws.defaults_are_of_the_table.Goals as goal
 
 pub returns : goal.returns

@@ -1,4 +1,4 @@
-use Rattle.bc_history.proofs.Texts.{stands_or_faulty}
+use Rattle.bc_history.proofs.lemmas.ScenarioTextLemmas.{stands_or_faulty}
 use Rattle.bc_history.proofs.text_laws.a_text_stands_or_is_faulty.Goals as goal
 
 pub returns-clause-either : goal.returns-clause-either

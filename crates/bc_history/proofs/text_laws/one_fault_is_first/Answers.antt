@@ -1,5 +1,5 @@
-use Rattle.text_io.specs.Lines.{lines_of_text}
-use Rattle.bc_history.proofs.Texts.{fault_built}
+use Rattle.text_io.specs.TextLines.{lines_of_text}
+use Rattle.bc_history.proofs.lemmas.ScenarioTextLemmas.{fault_built}
 use Rattle.bc_history.proofs.text_laws.one_fault_is_first.Goals as goal
 
 pub returns-clause-built : goal.returns-clause-built

@@ -1,0 +1,3 @@
+pub mod JoinedWordLemmas
+pub mod LineReadingLemmas
+pub mod OptionTableLemmas

@@ -1,0 +1,17 @@
+pub mod CoreInvariantLemmas
+pub mod PortStateLemmas
+pub mod PortPhaseLemmas
+pub mod PortIdentityLemmas
+pub mod OneFollowsLemmas
+pub mod RolePhaseLemmas
+pub mod EffectKindLemmas
+pub mod FinishedLemmas
+pub mod EndLemmas
+pub mod ExchangeLemmas
+pub mod MomentLemmas
+pub mod ScenarioTextLemmas
+pub mod OptionTableLemmas
+pub mod OptionRuleLemmas
+pub mod ListRuleLemmas
+pub mod LineRuleLemmas
+pub mod ScenarioRuleLemmas

@@ -1,0 +1,13 @@
+pub mod HubPort
+pub mod State
+pub mod Inputs
+pub mod OpeningState
+pub mod PortIdentities
+pub mod PortPhase
+pub mod DecisionPhase
+pub mod RolePhase
+pub mod NoticePhase
+pub mod QueryAnswers
+pub mod Step
+pub mod EntryEffects
+pub mod EffectKinds

@@ -1,0 +1,382 @@
+-- The run that a list of turns gives: one actor takes one step at a time.
+use Rattle.std.specs.Prelude.{ℕ, zero, suc, ℤ, pos, ◌+◌, ◌-◌, ◌-ℤ◌, ◌≡◌, Bool, true, false, ◌==◌, nat_le, nat_lt, if◌then◌else◌, List, [], ◌∷◌, ◌++◌, length, map, filter, filter_map, slice_get, slice_set, replicate, Option, Some, None, option_map, option_and_then, reverse}
+use Rattle.std.specs.Option.{option_or}
+use Rattle.ptp_base.specs.Floor.{ns_of}
+use Rattle.ptp_base.specs.Least.{first_least}
+use Rattle.ptp_base.specs.declared.limits.TheConstants.{ENTRIES_MAX}
+use Rattle.model_clock.specs.Clock.{clock_at, reading}
+use Rattle.ptp_profile.specs.declared.timing.Action.{Action}
+use Rattle.ptp_profile.specs.declared.timing.Action.TheVariants.{Unlocked as Unlocked_action}
+use Rattle.ptp_profile.specs.declared.timing.Measure.{Measure}
+use Rattle.ptp_profile.specs.declared.roles.Lead.{Lead}
+use Rattle.ptp_profile.specs.declared.seats.Held.{Held}
+use Rattle.ptp_profile.specs.declared.seats.LogEntry.{LogEntry}
+use Rattle.ptp_profile.specs.declared.seats.Reading.{Reading}
+use Rattle.ptp_profile.specs.Timing.Servo.{Sample, newest_action}
+use Rattle.ptp_profile.specs.Roles.SeatLogs.{log_at, logs_from, no_logs, whole_reading, with_orders}
+use Rattle.bc_history.specs.declared.entry.Entry.{Entry}
+use Rattle.bc_history.specs.declared.entry.Input.{Input}
+use Rattle.bc_history.specs.declared.entry.Input.TheVariants.{Report, Turn, Sampled, Query}
+use Rattle.bc_history.specs.declared.entry.Outcome.{Outcome}
+use Rattle.bc_history.specs.declared.entry.Outcome.TheVariants.{Unlocked}
+use Rattle.bc_history.specs.declared.entry.Seen.{Seen}
+use Rattle.bc_history.specs.declared.entry.Run.{Run}
+use Rattle.bc_history.specs.declared.entry.Who.{Who}
+use Rattle.bc_history.specs.declared.entry.Who.TheVariants.{Port as A_port, Follower as A_follower, Queries as The_queries}
+use Rattle.bc_history.specs.declared.scenario.Scenario.{Scenario}
+use Rattle.bc_history.specs.declared.scenario.Asked.{Asked}
+use Rattle.bc_history.specs.declared.scenario.Turner.{Turner}
+use Rattle.bc_history.specs.declared.scenario.Turner.TheVariants.{Default, Port as Port_turn, Clock as Clock_turn, Queries as Queries_turn}
+use Rattle.bc_history.specs.declared.scenario.Turns.{Turns}
+use Rattle.bc_history.specs.Phases.State.{Follower, State}
+use Rattle.bc_history.specs.Phases.HubPort.{HubPort}
+use Rattle.bc_history.specs.Phases.Inputs.{tick_of, port_of, port_at, changed_at, at_port, is_read}
+use Rattle.bc_history.specs.Phases.OpeningState.{servo_of, follower_count}
+use Rattle.bc_history.specs.Run.ExchangeOutcomes.{exchange_result}
+use Rattle.bc_history.specs.Phases.Step.{state_of}
+use Rattle.bc_history.specs.Phases.EntryEffects.{entry_after}
+use Rattle.bc_history.specs.Run.NextInputs.{next_input, turn_tick, query_input}
+use Rattle.bc_history.specs.Run.PortPlace.{PortPlace, Waits, Exchanges, Reports}
+use Rattle.bc_history.specs.Run.FollowerPlace.{FollowerPlace, Turns_next, Reads_theirs, Reads_own, Exchanges_own, Samples}
+
+-- ---- where an actor is in its job
+
+-- entries and logs have the newest first; the logs are by rising clock
+pub record World : Type 0 where
+  pub entries : List Entry
+  pub logs : List (List LogEntry)
+  pub ports : List PortPlace
+  pub followers : List FollowerPlace
+
+-- before the first step: everybody waits
+abbrev pub world_opening : Scenario → World
+world_opening s = record {
+  entries = [];
+  logs = no_logs s.clocks;
+  ports = map (λ c. Waits) s.ports;
+  followers = replicate (follower_count s) Turns_next;
+}
+
+-- ---- clocks and their logs
+
+-- what a reading shows at a tick
+abbrev pub seen_at : ℕ → Reading → Seen
+seen_at tick r = record { number = r.number; value = reading r.state tick; freq = r.state.freq }
+
+-- a reading of a clock after all entries of its log
+abbrev pub seen_of : Scenario → World → ℕ → ℕ → Seen
+seen_of s w c tick = seen_at tick (whole_reading (clock_at s.clocks c) (log_at w.logs c))
+
+-- ---- samples and actions
+
+-- the sample of a port's entry that gave a measure
+abbrev pub port_sample : ℕ → Entry → Option Sample
+port_sample p e = if is_of (port_of e.input) then option_map made e.effects.measure else None
+  where
+    is_of : Option ℕ → Bool
+    is_of None = false
+    is_of (Some q) = p == q
+
+    freq_of : Option Seen → ℤ
+    freq_of None = pos 0
+    freq_of (Some seen) = seen.freq
+
+    made : Measure × Held → Sample
+    made m = record
+        { gener = m.1.gener; freq = freq_of e.seen; offset = ns_of m.0.offset; local = m.0.local }
+
+-- the samples of a port, the newest first
+abbrev pub port_samples : ℕ → List Entry → List Sample
+port_samples p entries = filter_map (port_sample p) entries
+
+-- the sample that a follower's two readings make
+abbrev pub sample_of : Lead → Seen → Seen → Sample
+sample_of lead theirs own =
+    record {
+      gener = lead.gener;
+      freq = own.freq;
+      offset = own.value -ℤ theirs.value;
+      local = own.value;
+    }
+
+-- the sample of a follower's entry
+abbrev pub follower_sample : ℕ → Input → Option Sample
+follower_sample c (Sampled clock tick lead theirs own action outcome) =
+    if clock == c then Some (sample_of lead theirs own) else None
+follower_sample c _ = None
+
+-- the samples of a follower, the newest first
+abbrev pub follower_samples : ℕ → List Entry → List Sample
+follower_samples c entries = filter_map (λ (e : Entry). follower_sample c e.input) entries
+
+-- ---- steps
+
+-- a step: an event of the hub, or a reading or an exchange
+pub data Step : Type 0 where
+  Event : World → Step
+  Free : World → Step
+
+-- an action that asks for nothing needs no exchange
+abbrev pub port_job : ℕ → Held → Action → PortPlace
+port_job tick held Unlocked_action = Reports tick held.gener Unlocked_action Unlocked
+port_job tick held action = Exchanges tick held action
+
+-- where a port is after its event: at its job where the entry gave a measure
+abbrev pub port_place : Scenario → ℕ → List Entry → ℕ → Option (Measure × Held) → PortPlace
+port_place s p entries tick None = Waits
+port_place s p entries tick (Some m) =
+    port_job tick m.1 (newest_action (servo_of s.options) (port_samples p entries))
+
+-- the entry is added, and its orders are appended to the logs
+abbrev pub with_entry : World → Entry → World
+with_entry w e = record w { entries = e ∷ w.entries; logs = with_orders w.logs e.effects.orders }
+
+-- port p's entry enters the history, and the port goes on to its next place
+abbrev pub port_event : Scenario → World → ℕ → Input → Option Seen → World
+port_event s w p input seen = placed (entry_after s w.entries input seen)
+  where
+    placed : Entry → World
+    placed e = record (with_entry w e) {
+      ports = at_port
+          (λ place. port_place s p (e ∷ w.entries) (tick_of input) e.effects.measure) p
+          w.ports;
+    }
+
+-- a reading comes with a frame and a timer
+abbrev pub port_reading : Scenario → World → HubPort → Input → Option Seen
+port_reading s w h input =
+    if is_read input then Some (seen_of s w h.port.conf.clock (tick_of input)) else None
+
+-- what is due has a tick up to the end of the run
+abbrev pub is_due : Scenario → ℕ → Bool
+is_due s tick = nat_le tick s.options.duration
+
+-- the next step of port p from its place, where it has one that is due
+abbrev pub port_step : Scenario → World → ℕ → HubPort → PortPlace → Option Step
+port_step s w p h Waits =
+    option_and_then
+    (λ input.
+    if is_due s (tick_of input) then
+    Some (Event (port_event s w p input (port_reading s w h input)))
+    else
+    None)
+    (next_input s h)
+port_step s w p h (Exchanges tick held action) = Some (Free (after (exchange_result s.options.seat_rows held tick action (log_at w.logs held.clock))))
+  where
+    after : Outcome × List LogEntry → World
+    after x = record w {
+      logs = slice_set w.logs held.clock x.1;
+      ports = at_port
+          (λ place. Reports tick held.gener action x.0) p w.ports;
+    }
+port_step s w p h (Reports tick gener action outcome) =
+    Some (Event (port_event s w p (Report p tick gener action outcome) None))
+
+-- the stamp that a follower of clock c holds by its lead
+abbrev pub held_by : ℕ → Lead → Held
+held_by c lead = record { clock = c; gener = lead.gener; ctrl = 128 + lead.source }
+
+-- the follower of clock c at another place
+abbrev pub placed_follower : World → ℕ → FollowerPlace → World
+placed_follower w c place = record w { followers = changed_at (λ former. place) c w.followers }
+
+-- where a follower is after its turn
+abbrev pub turn_place : ℕ → Option Lead → FollowerPlace
+turn_place tick None = Turns_next
+turn_place tick (Some lead) = Reads_theirs tick lead
+
+-- what a turn told a follower to copy
+abbrev pub told_lead : Entry → Option Lead
+told_lead e = option_and_then (λ told. told.lead) e.effects.told
+
+-- where a follower goes with its servo's action: to the exchange, or past it where there is none
+abbrev pub follower_job : ℕ → Lead → Seen → Seen → Action → FollowerPlace
+follower_job tick lead theirs own Unlocked_action =
+    Samples tick lead theirs own Unlocked_action Unlocked
+follower_job tick lead theirs own action = Exchanges_own tick lead theirs own action
+
+-- an entry of the follower of clock c, which goes on to the place that follows from it
+abbrev pub follower_event : Scenario → World → ℕ → Input → (Entry → FollowerPlace) → World
+follower_event s w c input place = placed (entry_after s w.entries input None)
+  where
+    placed : Entry → World
+    placed e = placed_follower (with_entry w e) c (place e)
+
+-- the next step of the follower of clock c from its place, where it has one that is due
+abbrev pub follower_step : Scenario → World → ℕ → Follower → FollowerPlace → Option Step
+follower_step s w c f Turns_next =
+    if is_due s (turn_tick s f) then
+    Some
+    (Event
+    (follower_event s w c (Turn c (turn_tick s f))
+    (λ e. turn_place (turn_tick s f) (told_lead e))))
+    else
+    None
+follower_step s w c f (Reads_theirs tick lead) =
+    Some (Free (placed_follower w c (Reads_own tick lead (seen_of s w lead.source tick))))
+follower_step s w c f (Reads_own tick lead theirs) = Some (Free (placed_follower w c (acting (seen_of s w c tick))))
+  where
+    acting : Seen → FollowerPlace
+    acting own = follower_job tick lead theirs own
+        (newest_action (servo_of s.options)
+        (sample_of lead theirs own ∷ follower_samples c w.entries))
+follower_step s w c f (Exchanges_own tick lead theirs own action) = Some (Free (after (exchange_result s.options.seat_rows (held_by c lead) tick action (log_at w.logs c))))
+  where
+    after : Outcome × List LogEntry → World
+    after x = placed_follower (record w { logs = slice_set w.logs c x.1 }) c
+        (Samples tick lead theirs own action x.0)
+follower_step s w c f (Samples tick lead theirs own action outcome) =
+    Some
+    (Event
+    (follower_event s w c (Sampled c tick lead theirs own action outcome) (λ e. Turns_next)))
+
+-- the next query as a step, where it is due
+abbrev pub query_step : Scenario → World → Option Asked → Option Step
+query_step s w None = None
+query_step s w (Some asked) =
+    if is_due s asked.tick then
+    Some (Event (with_entry w (entry_after s w.entries (Query asked.tick asked.text) None)))
+    else
+    None
+
+-- the next step of an actor, if it has one
+abbrev pub step_of : Scenario → World → Who → Option Step
+step_of s w (A_port p) =
+    option_and_then (λ h. option_and_then (λ place. port_step s w p h place) (port_at w.ports p))
+    (port_at (state_of s w.entries).core.ports p)
+step_of s w (A_follower c) =
+    option_and_then
+    (λ f. option_and_then (λ place. follower_step s w c f place) (slice_get w.followers c))
+    (slice_get (state_of s w.entries).followers c)
+step_of s w The_queries = query_step s w (query_input s (state_of s w.entries))
+
+-- ---- turns
+
+-- the tick of the step that an actor has, and whether it is in the middle of its job
+abbrev pub port_due : Scenario → HubPort → PortPlace → Option (ℕ × Bool)
+port_due s h Waits = option_map (λ input. (tick_of input, false)) (next_input s h)
+port_due s h (Exchanges tick held action) = Some (tick, true)
+port_due s h (Reports tick gener action outcome) = Some (tick, true)
+
+-- when a follower's next step is due, and whether it is in the middle of its job
+abbrev pub follower_due : Scenario → Follower → FollowerPlace → ℕ × Bool
+follower_due s f Turns_next = (turn_tick s f, false)
+follower_due s f (Reads_theirs tick lead) = (tick, true)
+follower_due s f (Reads_own tick lead theirs) = (tick, true)
+follower_due s f (Exchanges_own tick lead theirs own action) = (tick, true)
+follower_due s f (Samples tick lead theirs own action outcome) = (tick, true)
+
+-- one who may take a step: the tick, whether in the middle of a job, and who
+pub record Candidate : Type 0 where
+  pub tick : ℕ
+  pub busy : Bool
+  pub who : Who
+
+-- an actor whose next step is due before the run ends
+abbrev pub due_candidate : Scenario → Who → Option (ℕ × Bool) → Option Candidate
+due_candidate s who None = None
+due_candidate s who (Some due) =
+    if is_due s due.0 then Some (record { tick = due.0; busy = due.1; who = who }) else None
+
+-- the ports with a step that is due, from port p on
+abbrev pub port_candidates : Scenario → ℕ → List HubPort → List PortPlace → List (Option Candidate)
+port_candidates s p (h ∷ hs) (place ∷ places) =
+    due_candidate s (A_port p) (port_due s h place) ∷ port_candidates s (p + 1) hs places
+port_candidates s p _ _ = []
+
+-- the followers with a step that is due, from clock c on
+abbrev pub follower_candidates :
+    Scenario → ℕ → List Follower → List FollowerPlace → List (Option Candidate)
+follower_candidates s c (f ∷ fs) (place ∷ places) =
+    due_candidate s (A_follower c) (Some (follower_due s f place))
+    ∷ follower_candidates s (c + 1) fs places
+follower_candidates s c _ _ = []
+
+-- all actors that have a step: ports, then followers, each rising, then queries
+abbrev pub candidates : Scenario → World → List Candidate
+candidates s w = of (state_of s w.entries)
+  where
+    of : State → List Candidate
+    of h = filter_map (λ candidate. candidate)
+        (port_candidates s 1 h.core.ports w.ports ++ follower_candidates s 0 h.followers w.followers
+        ++ due_candidate s The_queries
+        (option_map (λ (asked : Asked). (asked.tick, false)) (query_input s h))
+        ∷ [])
+
+-- of those with the least tick the first
+abbrev pub first_of : List Candidate → Option Who
+first_of all =
+    option_map (λ (candidate : Candidate). candidate.who)
+    (first_least (λ (candidate : Candidate). candidate.tick) all)
+
+-- the default rule: one in the middle of its job goes first, else the least tick; of equals the
+-- first in the order of all actors
+abbrev pub default_turn : Scenario → World → Option Who
+default_turn s w =
+    option_or (first_of (filter (λ (candidate : Candidate). candidate.busy) (candidates s w)))
+    (first_of (candidates s w))
+
+-- who takes the turn of a line of the schedule
+abbrev pub turn_of : Scenario → World → Turner → Option Who
+turn_of s w Default = default_turn s w
+turn_of s w (Port_turn p) = Some (A_port p)
+turn_of s w (Clock_turn c) = Some (A_follower c)
+turn_of s w Queries_turn = Some The_queries
+
+-- the line that turn n is of, counted from 0; none behind the schedule
+abbrev pub turner_at : List Turns → ℕ → Option Turner
+turner_at [] n = None
+turner_at (line ∷ lines) n =
+    if nat_lt n line.count then Some line.who else turner_at lines (n - line.count)
+
+-- how the turns of a scenario end: with a run, at a turn that has no step, or at one event too many
+pub data End : Type 0 where
+  Finished : Run → End
+  Not_due : (turn : ℕ) → End
+  Events : End
+
+-- a run that goes on, or one that has ended
+pub data Status : Type 0 where
+  Going : World → Status
+  Ended : End → Status
+
+-- the run so far, the oldest entry first
+abbrev pub run_of : Scenario → World → Run
+run_of s w = record { entries = reverse w.entries; logs = logs_from 0 s.clocks w.logs }
+
+-- an event is one too many where ENTRIES_MAX entries are held
+abbrev pub status_after_step : World → Step → Status
+status_after_step w (Event next) =
+    if nat_le ENTRIES_MAX (length w.entries) then Ended Events else Going next
+status_after_step w (Free next) = Going next
+
+-- the status after a step, or the end that it comes to where there is no step
+abbrev pub take_step : World → End → Option Step → Status
+take_step w end None = Ended end
+take_step w end (Some step) = status_after_step w step
+
+-- turn n of the scenario: one of the schedule, which has to have a step, or one of the default rule
+-- until nobody has a step
+abbrev pub next_status : Scenario → ℕ → World → Option Turner → Status
+next_status s n w (Some turner) =
+    take_step w (Not_due (n + 1)) (option_and_then (step_of s w) (turn_of s w turner))
+next_status s n w None =
+    take_step w (Finished (run_of s w)) (option_and_then (step_of s w) (default_turn s w))
+
+-- one more turn, where the scenario has not ended
+abbrev pub status_after_turn : Scenario → ℕ → Status → Status
+status_after_turn s n (Going w) = next_status s n w (turner_at s.turns n)
+status_after_turn s n (Ended end) = Ended end
+
+-- where the scenario stands after n turns
+unfoldable pub status_after : Scenario → ℕ → Status
+status_after s zero = Going (world_opening s)
+status_after s (suc n) = status_after_turn s n (status_after s n)
+
+-- the scenario ends so after some number of turns
+abbrev pub IsEnd : Scenario → End → Type 0
+IsEnd s end = (n : ℕ) × (status_after s n ≡ Ended end)
+
+-- the run of a scenario
+abbrev pub IsWorld : Scenario → Run → Type 0
+IsWorld s run = IsEnd s (Finished run)

@@ -1,0 +1,9 @@
+pub mod Defaults
+pub mod OptionTable
+pub mod SectionHeaders
+pub mod Draft
+pub mod SectionLines
+pub mod LineFaults
+pub mod TextExamples
+pub mod Scenario
+pub mod ScenarioRules
