@@ -1,24 +1,25 @@
 -- What an entry of a port does to a boundary clock, and what it tells.
 use Rattle.std.specs.Prelude.{◌≡◌, ℕ, ◌≤◌, List, ◌++◌, map, option_map, option_and_then, Option, Some, None, true, false, IsSomeAnd}
 use Rattle.ptp_base.specs.declared.identity.PortId.{PortId}
-use Rattle.ptp_base.specs.declared.number.TheConstants.{TICK_MAX}
-use Rattle.ptp_profile.specs.declared.port.Fate.{Fate}
+use Rattle.ptp_base.specs.declared.time.TheConstants.{TICK_MAX}
+use Rattle.ptp_profile.specs.declared.port_event.Fate.{Fate}
 use Rattle.ptp_profile.specs.declared.timing.Measure.{Measure}
 use Rattle.ptp_profile.specs.declared.seats.Held.{Held}
 use Rattle.bc_history.specs.declared.entry.Sent.{Sent}
 use Rattle.bc_history.specs.declared.port_input.PortEntry.{PortEntry}
 use Rattle.bc_history.specs.declared.scenario.Options.{Options}
-use Rattle.bc_history.specs.Inputs.{port_at}
-use Rattle.bc_history.specs.PortPhase.{after_port, fate_at}
-use Rattle.bc_history.specs.DecisionPhase.{after_decision, is_kept, newest_sender, raises}
-use Rattle.bc_history.specs.RolePhase.{states_of}
-use Rattle.bc_history.specs.Step.{at_moment, last_measure}
-use Rattle.bc_history.specs.Effects.{moves_from, changed_parent, frames_at}
-use Rattle.bc_history.specs.State.{HubPort, TickMeasure, Core}
+use Rattle.bc_history.specs.Phases.Inputs.{port_at}
+use Rattle.bc_history.specs.Phases.PortPhase.{after_port, fate_at}
+use Rattle.bc_history.specs.Phases.DecisionPhase.{after_decision, is_kept, newest_sender, raises_decision}
+use Rattle.bc_history.specs.Phases.RolePhase.{states_of}
+use Rattle.bc_history.specs.Phases.Step.{at_moment, last_measure}
+use Rattle.bc_history.specs.Phases.EntryEffects.{moves_from, changed_parent, frames_at}
+use Rattle.bc_history.specs.Phases.State.{Core}
+use Rattle.bc_history.specs.Phases.HubPort.{HubPort, TickMeasure}
 use Rattle.bc_ports.specs.PortYield.{IsTime}
 use Rattle.bc_ports.specs.Representation.{CoreRepresents, ClockRepresents}
 use Rattle.bc_ports.specs.declared.boundary_clock.BoundaryClock.{BoundaryClock}
-use Rattle.bc_ports.specs.declared.port_input.PortOutcome.{PortOutcome}
+use Rattle.bc_ports.specs.declared.hub_port.input.PortOutcome.{PortOutcome}
 use Rattle.bc_ports.specs.declared.event.EventOutcome.{EventOutcome}
 
 -- the entry is of one of n ports, its tick is one of a scenario, and its reading is one of a clock
@@ -39,7 +40,9 @@ IsKeptAt number fate (Some sender) hs = (is_kept fate ≡ true) × IsHeard numbe
 
 -- the measure that the port's last entry gave, with its stamp
 abbrev pub measure_of : ℕ → List HubPort → Option (Measure × Held)
-measure_of number hs = option_map (λ (m : TickMeasure). (m.measure, m.held)) (option_and_then (λ (h : HubPort). h.measured) (port_at hs number))
+measure_of number hs =
+    option_map (λ (m : TickMeasure). (m.measure, m.held))
+    (option_and_then (λ (h : HubPort). h.measured) (port_at hs number))
 
 -- the entry's port took its input: core, at the moment of the entry, is what was before it
 pub record CoreYields (o : Options) (e : PortEntry) (core : Core) (new : BoundaryClock) (before after : List (List ℕ)) (t : PortOutcome) : Type 0 where
@@ -47,16 +50,18 @@ pub record CoreYields (o : Options) (e : PortEntry) (core : Core) (new : Boundar
   pub fate : t.fate ≡ fate_at o e core
   pub measure : option_map (λ (m : Measure). (m, e.held)) t.measure ≡ measure_of e.input.number (after_port o e core).ports
   pub frames : after ≡ before ++ map (λ (sent : Sent). sent.octets) (frames_at o e core)
-  pub raises_is : t.raises ≡ raises t.fate (port_at core.ports e.input.number) e.input.tick e.input.what
+  pub raises_is : t.raises ≡ raises_decision t.fate (port_at core.ports e.input.number) e.input.tick e.input.what
   pub sender : IsKeptAt e.input.number t.fate t.sender (after_port o e core).ports
 
 -- core before an entry, after its own port, and after the decision
 abbrev pub core_at : PortEntry → Core → Core
 core_at e c = at_moment e.input.tick c
 
+-- ports and data sets once the entry's port took its input
 abbrev pub core_ported : Options → PortEntry → Core → Core
 core_ported o e c = after_port o e (core_at e c)
 
+-- ports and data sets once the decision followed
 abbrev pub core_decided : Options → PortEntry → Core → Core
 core_decided o e c = after_decision o e (core_at e c) (core_ported o e c)
 

@@ -1,6 +1,5 @@
-pub mod Forgetting
 pub mod Representation
 pub mod PortYield
-pub mod Scratch
+pub mod DecisionScratch
 pub mod ClockYield
-pub mod Opening
+pub mod OpenPorts

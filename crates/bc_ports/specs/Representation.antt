@@ -1,41 +1,45 @@
 -- What is kept of ports and data sets, beside what a history gives.
 use Rattle.std.specs.Prelude.{◌≡◌, ℕ, ◌+◌, ◌≤◌, List, [], ◌∷◌, map, length, Option}
 use Rattle.ptp_base.specs.declared.limits.TheConstants.{PORTS_MAX}
-use Rattle.ptp_base.specs.declared.number.TheConstants.{TICK_MAX}
-use Rattle.ptp_profile.specs.declared.foreign.KeptAnnounce.{KeptAnnounce}
+use Rattle.ptp_base.specs.declared.time.TheConstants.{TICK_MAX}
+use Rattle.ptp_profile.specs.declared.foreign_master.KeptAnnounce.{KeptAnnounce}
 use Rattle.ptp_profile.specs.declared.timing.Measure.{Measure}
-use Rattle.ptp_profile.specs.Port.{Port}
-use Rattle.ptp_profile.specs.Timers.{window_of}
-use Rattle.foreign_master.specs.Memory.{Remembers}
-use Rattle.foreign_master.specs.Places.{IsReached}
+use Rattle.ptp_profile.specs.Port.Port.{Port}
+use Rattle.ptp_profile.specs.Port.PortTimers.{window_of}
+use Rattle.foreign_master.specs.RecordsView.{RecordsRepresent}
+use Rattle.foreign_master.specs.ForeignMasterTable.{IsReached}
 use Rattle.data_sets.specs.declared.data_sets.DataSets.{DataSets}
 use Rattle.data_sets.specs.declared.port_set.PortSet.{PortSet}
-use Rattle.data_sets.specs.Masters.{master_in}
+use Rattle.data_sets.specs.DataSetsView.{master_in}
 use Rattle.bc_history.specs.declared.scenario.Options.{Options}
-use Rattle.bc_history.specs.State.{HubPort, Core}
-use Rattle.bc_history.specs.Opening.{own_of, own_port}
-use Rattle.bc_history.specs.QueryAnswers.{offset_within, delay_within}
-use Rattle.port_engine.specs.Engine.{IsEngineOf}
+use Rattle.bc_history.specs.Phases.State.{Core}
+use Rattle.bc_history.specs.Phases.HubPort.{HubPort}
+use Rattle.bc_history.specs.Phases.OpeningState.{local_announcement, local_port}
+use Rattle.bc_history.specs.Phases.QueryAnswers.{offset_within, delay_within}
+use Rattle.port_engine.specs.EngineView.{EngineRepresents}
 use Rattle.bc_ports.specs.declared.hub_port.HubPort.{HubPort as KeptPort}
 use Rattle.bc_ports.specs.declared.boundary_clock.BoundaryClock.{BoundaryClock}
 
 -- ---- a port
 
--- an engine, with a mean over so many delays, and the Announces that were kept, none of them later than m
+-- an engine, with a mean over so many delays, and the Announces that were kept, none of them later
+-- than m
 pub record Represents (length m : ℕ) (q : KeptPort) (port : Port) (kept : List KeptAnnounce) : Type 0 where
-  pub engine : IsEngineOf length q.engine port
-  pub records : Remembers q.records kept
+  pub engine : EngineRepresents length q.engine port
+  pub records : RecordsRepresent q.records kept
   pub reached : IsReached m kept
   pub window : q.records.window ≡ window_of port.conf
   pub receiver : q.records.receiver ≡ port.id
 
+-- the code's port stands for the history's
 abbrev pub PortRepresents : ℕ → ℕ → KeptPort → HubPort → Type 0
 PortRepresents length m q h = Represents length m q h.port h.kept
 
 -- so is each port, in rising number
 abbrev pub PortsRepresent : ℕ → ℕ → List KeptPort → List HubPort → Type 0
 PortsRepresent length m [] [] = Unit {0}
-PortsRepresent length m (q ∷ qs) (h ∷ hs) = PortRepresents length m q h × PortsRepresent length m qs hs
+PortsRepresent length m (q ∷ qs) (h ∷ hs) =
+    PortRepresents length m q h × PortsRepresent length m qs hs
 PortsRepresent length m [] (h ∷ hs) = ⊥
 PortsRepresent length m (q ∷ qs) [] = ⊥
 
@@ -46,7 +50,7 @@ pub record IsSamePort (old new : KeptPort) : Type 0 where
 
 -- the port of a number, of a clock with these options
 abbrev pub IsNumbered : Options → ℕ → KeptPort → Type 0
-IsNumbered o n q = q.records.receiver ≡ own_port o n
+IsNumbered o n q = q.records.receiver ≡ local_port o n
 
 -- the ports of the clock, from number n on
 abbrev pub ArePortsOf : Options → ℕ → List KeptPort → Type 0
@@ -57,9 +61,9 @@ ArePortsOf o n (q ∷ qs) = IsNumbered o n q × ArePortsOf o (n + 1) qs
 
 -- the data sets are those of a clock with these options (8.2.1)
 pub record IsClockOf (o : Options) (d : DataSets) : Type 0 where
-  pub own : d.own ≡ own_of o
+  pub own : d.own ≡ local_announcement o
   pub domain : d.domain ≡ o.domain_number
-  pub local_time : d.local_time ≡ (own_of o).time
+  pub local_time : d.local_time ≡ (local_announcement o).time
 
 -- moment, master and ports
 pub record CoreRepresents (o : Options) (n : BoundaryClock) (c : Core) : Type 0 where
@@ -91,7 +95,8 @@ pub record ClockRepresents (o : Options) (n : BoundaryClock) (c : Core) (measure
   pub port_sets : n.sets.ports ≡ map port_set c.ports
   pub measure : MeasureRepresents n.sets measured
 
--- what always holds of a clock: at most PORTS_MAX ports, each with its portDS and a place for its decision, and a moment of a scenario
+-- what always holds of a clock: at most PORTS_MAX ports, each with its portDS and a place for its
+-- decision, and a moment of a scenario
 pub record IsSound (n : BoundaryClock) : Type 0 where
   pub few : n.ports.len ≤ PORTS_MAX
   pub early : n.moment ≤ TICK_MAX

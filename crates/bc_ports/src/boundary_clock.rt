@@ -1,20 +1,17 @@
-ghost use Rattle.ptp_base.specs.declared.number.TheConstants.{TICK_MAX};
-ghost use Rattle.std.specs.Prelude.{◌≡◌, ℕ, ◌+◌, ◌≤◌, length, Option, List, Some};
+ghost use Rattle.std.specs.Prelude.{◌≡◌, ◌≤◌, length, Option, Some};
 ghost use Rattle.bc_history.specs.declared.scenario.Options.{Options};
-ghost use Rattle.bc_history.specs.Opening.{own_of};
-ghost use Rattle.bc_history.specs.PortPhase.{after_port};
-ghost use Rattle.bc_history.specs.DecisionPhase.{with_codes, best_among, after_hearing, with_decision};
-ghost use Rattle.ptp_profile.specs.declared.port.Fate.{Fate};
-ghost use Rattle.bc_history.specs.State.{Core};
-ghost use Rattle.bc_history.specs.Step.{at_moment};
-ghost use Rattle.bc_ports.specs.Scratch.{OthersStay};
-ghost use Rattle.bc_ports.specs.PortYield.{IsTime};
+ghost use Rattle.bc_history.specs.Phases.OpeningState.{local_announcement};
+ghost use Rattle.bc_history.specs.Phases.DecisionPhase.{with_codes, best_among, after_hearing, with_decision};
+ghost use Rattle.ptp_profile.specs.declared.port_event.Fate.{Fate};
+ghost use Rattle.bc_history.specs.Phases.State.{Core};
+ghost use Rattle.bc_history.specs.Phases.Step.{at_moment};
+ghost use Rattle.bc_ports.specs.DecisionScratch.{OthersStay};
 ghost use Rattle.bc_ports.specs.Representation.{CoreRepresents, IsSound};
 ghost use Rattle.bc_ports.specs.ClockYield.{CoreYields, IsAmong, IsHeard, IsKeptAt};
 
 use crate::decision::{apply_codes, decide_ports, is_new_parent, push_bests};
 use crate::hub_port::HubPort;
-use crate::port_input::PortOutcome;
+use crate::hub_port::input::PortOutcome;
 use crate::scratch::DecisionScratch;
 use bc_history::{EventContext, PortEntry};
 use data_sets::DataSets;
@@ -28,9 +25,11 @@ use state_decision::{codes_with, ebest};
 pub struct BoundaryClock {
     /// The greatest tick so far, in ns of the scenario.
     pub moment: u64,
+    /// The data sets, portDS of each port among them.
     pub sets: DataSets,
     /// By rising number, from port 1 on.
     pub ports: Vec<HubPort>,
+    /// What a decision works on.
     pub scratch: DecisionScratch,
 }
 
@@ -43,8 +42,9 @@ impl BoundaryClock {
         ensures sound { IsSound self.new }
         ensures length { self.new.ports.len ≡ self.old.ports.len }
         ensures sets { self.new.sets ≡ self.old.sets }
-        ensures yields { (o : Options) (c : Core) → CoreRepresents o self.old c
-            → CoreYields o entry.now (at_moment entry.now.input.tick c) self.new frames.old.items frames.new.items result }
+        ensures yields { (o : Options) (c : Core) → CoreRepresents o self.old c →
+            CoreYields o entry.now (at_moment entry.now.input.tick c) self.new frames.old.items
+            frames.new.items result }
     {
         let input = &entry.input;
         self.moment = self.moment.max(input.tick);
@@ -65,8 +65,9 @@ impl BoundaryClock {
         requires sound { IsSound self.old }
         ensures sound { IsSound self.new }
         ensures length { self.new.ports.len ≡ self.old.ports.len }
-        ensures core { (o : Options) (c : Core) → CoreRepresents o self.old c
-            → CoreRepresents o self.new (with_codes (own_of o) (best_among c.moment c.ports) c) }
+        ensures core { (o : Options) (c : Core) → CoreRepresents o self.old c →
+            CoreRepresents o self.new
+            (with_codes (local_announcement o) (best_among c.moment c.ports) c) }
         ensures others { OthersStay self.old.sets self.new.sets }
     {
         let own = self.sets.own;
@@ -99,8 +100,8 @@ impl BoundaryClock {
         requires there { number ≤ self.old.ports.len }
         ensures sound { IsSound self.new }
         ensures length { self.new.ports.len ≡ self.old.ports.len }
-        ensures core { (o : Options) (c : Core) → IsHeard number c.ports sender → CoreRepresents o self.old c
-            → CoreRepresents o self.new (after_hearing number c) }
+        ensures core { (o : Options) (c : Core) → IsHeard number c.ports sender →
+            CoreRepresents o self.old c → CoreRepresents o self.new (after_hearing number c) }
         ensures sets { self.new.sets ≡ self.old.sets }
     {
         let moment = self.moment;
@@ -115,8 +116,9 @@ impl BoundaryClock {
         requires there { number ≤ self.old.ports.len }
         ensures sound { IsSound self.new }
         ensures length { self.new.ports.len ≡ self.old.ports.len }
-        ensures core { (o : Options) (fate : Option Fate) (c : Core) → IsKeptAt number fate sender c.ports → CoreRepresents o self.old c
-            → CoreRepresents o self.new (with_decision o fate number c) }
+        ensures core { (o : Options) (fate : Option Fate) (c : Core) →
+            IsKeptAt number fate sender c.ports → CoreRepresents o self.old c →
+            CoreRepresents o self.new (with_decision o fate number c) }
         ensures others { OthersStay self.old.sets self.new.sets }
     {
         self.decide();

@@ -1,16 +1,15 @@
-ghost use Rattle.ptp_base.specs.declared.limits.TheConstants.{STEPS_END};
-ghost use Rattle.ptp_base.specs.declared.number.TheConstants.{TICK_MAX};
+ghost use Rattle.ptp_base.specs.declared.time.TheConstants.{TICK_MAX};
 ghost use Rattle.std.specs.Prelude.{◌≡◌, ℕ, ◌+◌, ◌≤◌, ◌<◌, List, [], map, length, All, fold, Option};
 ghost use Rattle.ptp_base.specs.declared.identity.PortId.{PortId};
 ghost use Rattle.ptp_base.specs.declared.announcement.Announcement.{Announcement};
-ghost use Rattle.ptp_profile.specs.DataSets.{applied};
-ghost use Rattle.data_sets.specs.Masters.{master_in};
+ghost use Rattle.ptp_profile.specs.Best.MasterData.{after_code};
+ghost use Rattle.data_sets.specs.DataSetsView.{master_in};
 ghost use Rattle.bc_history.specs.declared.scenario.Options.{Options};
-ghost use Rattle.bc_history.specs.DecisionPhase.{is_new_parent, with_code, code_with};
-ghost use Rattle.bc_history.specs.State.{HubPort as Model};
-ghost use Rattle.bc_history.specs.Opening.{own_of};
+ghost use Rattle.bc_history.specs.Phases.DecisionPhase.{is_new_parent, with_code, code_with};
+ghost use Rattle.bc_history.specs.Phases.HubPort.{HubPort as Model};
+ghost use Rattle.bc_history.specs.Phases.OpeningState.{local_announcement};
 ghost use Rattle.bc_ports.specs.Representation.{PortsRepresent, ArePortsOf, IsClockOf};
-ghost use Rattle.bc_ports.specs.Scratch.{IsNear, OthersStay, port_bests};
+ghost use Rattle.bc_ports.specs.DecisionScratch.{IsNear, OthersStay, port_bests};
 
 use crate::hub_port::HubPort;
 use data_sets::DataSets;
@@ -21,7 +20,8 @@ use ptp_profile::PortBest;
 pub fn push_bests(ports: &[HubPort], moment: u64, out: &mut Room<PortBest>)
     requires empty { out.old.items ≡ [] }
     requires room { length ports.now ≤ out.old.spare }
-    ensures bests { (n : ℕ) (hs : List Model) → PortsRepresent n moment ports.now hs → out.new.items ≡ port_bests moment hs }
+    ensures bests { (n : ℕ) (hs : List Model) → PortsRepresent n moment ports.now hs →
+        out.new.items ≡ port_bests moment hs }
     ensures near { All (λ b. IsNear b.best) out.new.items }
     ensures length { length out.new.items ≡ length ports.now }
     ensures spare { length out.old.items + out.old.spare ≤ length out.new.items + out.new.spare }
@@ -38,7 +38,9 @@ pub fn push_bests(ports: &[HubPort], moment: u64, out: &mut Room<PortBest>)
 /// Applies the codes of all ports to the data sets, in rising number (IEEE 1588-2019, 9.3.5).
 pub fn apply_codes(sets: &mut DataSets, codes: &[Code], best: &Option<Announcement>)
     requires { IsNear best.now }
-    ensures master { (o : Options) → IsClockOf o sets.old → master_in sets.new ≡ fold (applied (own_of o) best.now) (master_in sets.old) codes.now }
+    ensures master { (o : Options) → IsClockOf o sets.old →
+        master_in sets.new
+        ≡ fold (after_code (local_announcement o) best.now) (master_in sets.old) codes.now }
     ensures clock { (o : Options) → IsClockOf o sets.old → IsClockOf o sets.new }
     ensures others { OthersStay sets.old sets.new }
 {
@@ -61,9 +63,11 @@ pub fn is_new_parent(best: &Option<Announcement>, parent: PortId) -> bool
 pub fn decide_ports(ports: &mut [HubPort], codes: &[Code], is_new: bool, moment: u64, steps: u16)
     requires moment { moment ≤ TICK_MAX }
     requires same { length codes.now ≡ length ports.old }
-    ensures ports { (n : ℕ) (own : Announcement) (best : Option Announcement) (parent : PortId) (hs : List Model)
-        → is_new ≡ is_new_parent best parent → codes.now ≡ map (code_with own moment best) hs → PortsRepresent n moment ports.old hs
-        → PortsRepresent n moment ports.new (map (with_code own moment best parent steps) hs) }
+    ensures ports { (n : ℕ) (own : Announcement) (best : Option Announcement) (parent : PortId)
+        (hs : List Model) →
+        is_new ≡ is_new_parent best parent → codes.now ≡ map (code_with own moment best) hs →
+        PortsRepresent n moment ports.old hs →
+        PortsRepresent n moment ports.new (map (with_code own moment best parent steps) hs) }
     ensures of { (o : Options) → ArePortsOf o 1 ports.old → ArePortsOf o 1 ports.new }
     ensures length { length ports.new ≡ length ports.old }
 {

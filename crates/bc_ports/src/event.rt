@@ -1,19 +1,18 @@
-ghost use Rattle.std.specs.Prelude.{◌≡◌, ℕ, ◌*◌, ◌≤◌, List, [], ◌++◌, Option, option_map, length};
+ghost use Rattle.std.specs.Prelude.{◌≡◌, ℕ, ◌*◌, ◌≤◌, List, [], Option, option_map, length};
 ghost use Rattle.std.specs.Int.{w64, saturate_signed};
 ghost use Rattle.ptp_profile.specs.declared.timing.Measure.{Measure as Measured};
 ghost use Rattle.bc_history.specs.declared.scenario.Options.{Options};
-ghost use Rattle.bc_history.specs.PortPhase.{after_port};
-ghost use Rattle.bc_history.specs.DecisionPhase.{after_decision};
-ghost use Rattle.bc_history.specs.RolePhase.{states_of};
-ghost use Rattle.bc_history.specs.State.{Core};
-ghost use Rattle.bc_history.specs.Step.{last_measure};
+ghost use Rattle.bc_history.specs.Phases.PortPhase.{after_port};
+ghost use Rattle.bc_history.specs.Phases.DecisionPhase.{after_decision};
+ghost use Rattle.bc_history.specs.Phases.RolePhase.{states_of};
+ghost use Rattle.bc_history.specs.Phases.State.{Core};
 ghost use Rattle.bc_ports.specs.Representation.{ClockRepresents, CoreRepresents, IsSound};
 ghost use Rattle.bc_ports.specs.ClockYield.{CoreYields, EventYields, IsAmong, core_decided};
-ghost use Rattle.bc_ports.specs.Scratch.{IsMeasured, OthersStay};
+ghost use Rattle.bc_ports.specs.DecisionScratch.{IsMeasured, OthersStay};
 
 use crate::boundary_clock::BoundaryClock;
+use crate::hub_port::input::PortOutcome;
 use crate::moves::{changed_parent, push_moves, push_states, set_states};
-use crate::port_input::PortOutcome;
 use bc_history::{Moved, PortEntry};
 use data_sets::DataSets;
 use port_engine::Frames;

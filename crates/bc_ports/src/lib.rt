@@ -6,11 +6,9 @@
 mod boundary_clock;
 mod decision;
 mod event;
-mod frame;
 mod hub_port;
 mod moves;
 mod opening;
-mod port_input;
 mod scratch;
 
 pub use bc_history::{EventContext, Moved, PortEntry, PortHappening, PortInput};

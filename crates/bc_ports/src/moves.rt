@@ -1,10 +1,10 @@
 ghost use Rattle.std.specs.Prelude.{◌≡◌, ◌≢◌, ℕ, ◌+◌, ◌*◌, ◌<◌, ◌≤◌, List, [], length, slice_get, slice_set, ◌++◌, Some};
 ghost use Rattle.ptp_base.specs.declared.limits.TheConstants.{PORTS_MAX};
-ghost use Rattle.bc_history.specs.RolePhase.{states_of};
-ghost use Rattle.bc_history.specs.State.{HubPort as Model};
-ghost use Rattle.bc_history.specs.Effects.{moved, moves_from, changed_parent};
+ghost use Rattle.bc_history.specs.Phases.RolePhase.{states_of};
+ghost use Rattle.bc_history.specs.Phases.HubPort.{HubPort as Model};
+ghost use Rattle.bc_history.specs.Phases.EntryEffects.{moves_of_port, moves_from, changed_parent};
 ghost use Rattle.bc_ports.specs.Representation.{PortsRepresent};
-ghost use Rattle.bc_ports.specs.Scratch.{states_in, with_states};
+ghost use Rattle.bc_ports.specs.DecisionScratch.{states_in, with_states};
 
 use crate::hub_port::HubPort;
 use bc_history::Moved;
@@ -14,7 +14,7 @@ use ptp_base::{PortId, PortState, Room};
 /// Adds how a port moved, where it did.
 fn push_moved(port: u16, old: PortState, new: PortState, out: &mut Room<Moved>)
     requires { 0 < out.old.spare }
-    ensures moved { out.new.items ≡ out.old.items ++ moved port old new }
+    ensures moved { out.new.items ≡ out.old.items ++ moves_of_port port old new }
     ensures spare { out.old.spare ≤ out.new.spare + 1 }
 {
     if old != new {
@@ -43,7 +43,10 @@ pub fn push_moves(
     requires news { length news.now ≡ length sets.now }
     requires few { length sets.now ≤ PORTS_MAX }
     requires room { 2 * length sets.now ≤ out.old.spare }
-    ensures { out.new.items ≡ out.old.items ++ moves_from 1 (states_in sets.now) (slice_set (states_in sets.now) at between) news.now }
+    ensures { out.new.items
+        ≡ out.old.items
+        ++ moves_from 1 (states_in sets.now) (slice_set (states_in sets.now) at between)
+        news.now }
 {
     for i in 0..sets.len() {
         let port = i as u16 + 1;
@@ -66,7 +69,8 @@ pub fn push_states(ports: &[HubPort], out: &mut Room<PortState>)
     requires empty { out.old.items ≡ [] }
     requires room { length ports.now ≤ out.old.spare }
     ensures length { length out.new.items ≡ length ports.now }
-    ensures states { (n m : ℕ) (hs : List Model) → PortsRepresent n m ports.now hs → out.new.items ≡ states_of hs }
+    ensures states { (n m : ℕ) (hs : List Model) → PortsRepresent n m ports.now hs →
+        out.new.items ≡ states_of hs }
 {
     for port in ports {
         out.push(port.engine.state());

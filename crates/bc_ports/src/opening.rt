@@ -1,8 +1,8 @@
 ghost use Rattle.std.specs.Prelude.{◌≡◌, ◌≤◌, length, All, IfOk, None};
-ghost use Rattle.bc_history.specs.Opening.{own_of, own_port, opening};
+ghost use Rattle.bc_history.specs.Phases.OpeningState.{local_announcement, local_port, opening};
 ghost use Rattle.ptp_base.specs.declared.limits.TheConstants.{DELAYS_MAX, PORTS_MAX};
-ghost use Rattle.bc_history.specs.ScenarioRules.{IsPortConf};
-ghost use Rattle.bc_ports.specs.Opening.{ArePortsFrom, IsOpenPort, port_set_from, port_sets_from};
+ghost use Rattle.bc_history.specs.Scenario.ScenarioRules.{IsPortConf};
+ghost use Rattle.bc_ports.specs.OpenPorts.{ArePortsFrom, IsOpenPort, port_set_from, port_sets_from};
 ghost use Rattle.bc_ports.specs.Representation.{ClockRepresents, IsSound};
 
 use crate::boundary_clock::BoundaryClock;
@@ -13,15 +13,16 @@ use data_sets::{DataSets, PortSet, PortSets};
 use foreign_master::Records;
 use port_engine::PortEngine;
 use ptp_base::{
-    Announcement, Items, NoMemory, PortConf, PortId, PortState, Quality, TimeProps, interval,
+    Announcement, FOREIGN_MASTER_TIME_WINDOW, Items, NoMemory, PortConf, PortId, PortState,
+    Quality, TimeProps, interval,
 };
 use std::alloc::Global;
 
 /// What the own clock would announce (D0 of IEEE 1588-2019, 9.3.4).
-fn own_of(options: &Options) -> Announcement
-    ensures { result ≡ own_of options.now }
+fn local_announcement(options: &Options) -> Announcement
+    ensures { result ≡ local_announcement options.now }
 {
-    let own = own_port(options, 0);
+    let own = local_port(options, 0);
     Announcement {
         grandmaster: options.clock_identity,
         quality: Quality {
@@ -44,8 +45,8 @@ fn own_of(options: &Options) -> Announcement
 }
 
 /// The identity of a port of the own clock.
-fn own_port(options: &Options, port: u16) -> PortId
-    ensures { result ≡ own_port options.now port }
+fn local_port(options: &Options, port: u16) -> PortId
+    ensures { result ≡ local_port options.now port }
 {
     PortId {
         clock: options.clock_identity,
@@ -65,10 +66,14 @@ fn open_port(
     requires conf { IsPortConf conf.now }
     ensures { IfOk result (IsOpenPort options.now port conf.now) }
 {
-    let id = own_port(options, port);
+    let id = local_port(options, port);
     Ok(HubPort {
         engine: PortEngine::new(alloc, conf, id, options.delay_filter_length)?,
-        records: Records::new(alloc, id, 4 * interval(conf.log_announce))?,
+        records: Records::new(
+            alloc,
+            id,
+            FOREIGN_MASTER_TIME_WINDOW * interval(conf.log_announce),
+        )?,
     })
 }
 
@@ -99,7 +104,7 @@ fn port_set_of(options: &Options, port: u16, conf: &PortConf) -> PortSet
     ensures { result ≡ port_set_from options.now port conf.now }
 {
     PortSet {
-        id: own_port(options, port),
+        id: local_port(options, port),
         state: PortState::Listening,
         log_announce: conf.log_announce,
         log_sync: conf.log_sync,
@@ -125,12 +130,13 @@ fn port_sets(alloc: Global, options: &Options, confs: &[PortConf]) -> Result<Por
 impl BoundaryClock {
     /// As a run begins: every port in LISTENING, and this clock as its own master.
     pub fn new(alloc: Global, s: &Scenario) -> Result<BoundaryClock, NoMemory>
-        ensures clock { IfOk result (λ n. ClockRepresents s.now.options n (opening s.now).core None) }
+        ensures clock { IfOk result
+            (λ n. ClockRepresents s.now.options n (opening s.now).core None) }
         ensures sound { IfOk result IsSound }
         ensures length { IfOk result (λ n. n.ports.len ≡ length s.now.ports) }
     {
         s.rules();
-        let own = own_of(&s.options);
+        let own = local_announcement(&s.options);
         let sets = port_sets(alloc, &s.options, s.ports.items())?;
         Ok(BoundaryClock {
             moment: 0,

@@ -1,6 +1,6 @@
 ghost use Rattle.std.specs.Prelude.{◌≤◌, IfOk};
 ghost use Rattle.ptp_base.specs.declared.limits.TheConstants.{PORTS_MAX};
-ghost use Rattle.bc_ports.specs.Scratch.{HasRoom};
+ghost use Rattle.bc_ports.specs.DecisionScratch.{HasRoom};
 
 use ptp_base::{Code, NoMemory, Room};
 use ptp_profile::PortBest;
@@ -9,7 +9,9 @@ use std::alloc::Global;
 /// What a decision works on, reserved once for all, so that deciding does not allocate.
 #[derive(Drop)]
 pub struct DecisionScratch {
+    /// State and Erbest of each port, by rising number.
     pub bests: Room<PortBest>,
+    /// The code of each port, by rising number.
     pub codes: Vec<Code>,
 }
 

@@ -2,4 +2,4 @@ pub mod Stamps
 pub mod RolesView
 pub mod RolesInvariant
 pub mod OrderRules
-pub mod NextRoles
+pub mod NextGeneration

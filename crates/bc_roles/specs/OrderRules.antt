@@ -3,12 +3,13 @@ use Rattle.std.specs.Prelude.{◌≡◌, ◌<◌, ◌≤◌, List, [], ◌∷◌
 use Rattle.ptp_base.specs.declared.limits.TheConstants.{ENTRIES_MAX}
 use Rattle.ptp_profile.specs.declared.roles.RoleOrder.{RoleOrder}
 use Rattle.ptp_profile.specs.declared.roles.Stamp.{Stamp}
-use Rattle.ptp_profile.specs.Forest.{IsForest, ctrls_by}
-use Rattle.ptp_profile.specs.Logs.{order_entry, IsController, MayFollow}
-use Rattle.discipline_seat.specs.Seats.{Seats, with_entry}
+use Rattle.ptp_profile.specs.Roles.Forest.{IsForest, ctrls_by}
+use Rattle.ptp_profile.specs.Roles.SeatLogs.{order_entry, IsController, MayFollow}
+use Rattle.discipline_seat.specs.SeatsView.{Seats, with_entry}
 use Rattle.bc_roles.specs.Stamps.{ctrls_in, stamp_at, with_stamp}
 
--- an order that may be given where the clocks have these stamps: one to nobody is of a newer generation than the clock's stamp
+-- an order that may be given where the clocks have these stamps: one to nobody is of a newer
+-- generation than the clock's stamp
 pub record IsAllowed (stamps : List Stamp) (order : RoleOrder) : Type 0 where
   pub there : order.clock < length stamps
   pub ctrl : IsController (length stamps) order.ctrl
@@ -21,7 +22,8 @@ pub record IsAllowed (stamps : List Stamp) (order : RoleOrder) : Type 0 where
 -- orders that may be given one after another
 abbrev pub AreAllowed : List Stamp → List RoleOrder → Type 0
 AreAllowed stamps [] = Unit {0}
-AreAllowed stamps (order ∷ orders) = IsAllowed stamps order × AreAllowed (with_stamp stamps order) orders
+AreAllowed stamps (order ∷ orders) =
+    IsAllowed stamps order × AreAllowed (with_stamp stamps order) orders
 
 -- an order enters the log of its clock, in a place that was reserved
 abbrev pub with_given : Seats → RoleOrder → Seats

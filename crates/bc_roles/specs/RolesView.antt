@@ -3,12 +3,12 @@ use Rattle.std.specs.Prelude.{◌≡◌, ℕ, List, length, replicate}
 use Rattle.model_clock.specs.declared.state.ClockState.{ClockState}
 use Rattle.ptp_profile.specs.declared.roles.RoleOrder.{RoleOrder}
 use Rattle.ptp_profile.specs.declared.roles.Stamp.{Stamp}
-use Rattle.ptp_profile.specs.Logs.{AreLawful}
-use Rattle.ptp_profile.specs.Roles.{no_stamp}
-use Rattle.role_gen.specs.Generations.{Generation, no_generation}
-use Rattle.discipline_seat.specs.Seats.{Seats, opened}
-use Rattle.bc_history.specs.State.{Core, Roles}
-use Rattle.bc_history.specs.RolePhase.{after_roles, orders_now}
+use Rattle.ptp_profile.specs.Roles.SeatLogs.{AreLawful}
+use Rattle.ptp_profile.specs.Roles.Edges.{no_stamp}
+use Rattle.role_gen.specs.Generation.{Generation, no_generation}
+use Rattle.discipline_seat.specs.SeatsView.{Seats, seats_at_opening}
+use Rattle.bc_history.specs.Phases.State.{Core, Roles}
+use Rattle.bc_history.specs.Phases.RolePhase.{after_roles, orders_now}
 use Rattle.bc_roles.specs.Stamps.{stamps_of}
 
 -- the edges with their generation, the stamp of each clock's last order, and the seats
@@ -17,14 +17,19 @@ pub record RolesView : Type 0 where
   pub stamps : List Stamp
   pub seats : Seats
 
+-- the view of roles by its parts
 abbrev pub roles_view : Generation → List Stamp → Seats → RolesView
-roles_view generation stamps seats = record { generation = generation; stamps = stamps; seats = seats }
+roles_view generation stamps seats =
+    record { generation = generation; stamps = stamps; seats = seats }
 
 -- nothing drives a clock, and nothing was ordered or changed
 abbrev pub no_roles : ℕ → List ClockState → RolesView
-no_roles rows clocks = roles_view (no_generation (length clocks)) (replicate (length clocks) no_stamp) (opened rows clocks)
+no_roles rows clocks =
+    roles_view (no_generation (length clocks)) (replicate (length clocks) no_stamp)
+    (seats_at_opening rows clocks)
 
--- what is kept stands for the history's roles: generation, edges, the stamp of each clock's last order, and the orders of the logs
+-- what is kept stands for the history's roles: generation, edges, the stamp of each clock's last
+-- order, and the orders of the logs
 pub record RolesRepresent (v : RolesView) (r : Roles) : Type 0 where
   pub gener : v.generation.gener ≡ r.gener
   pub edges : v.generation.edges ≡ r.edges
@@ -32,7 +37,7 @@ pub record RolesRepresent (v : RolesView) (r : Roles) : Type 0 where
   pub lawful : AreLawful r.orders v.seats.logs
 
 -- the roles went on by the ports' states and the parent, with these orders
-pub record HaveAdvanced (c : Core) (r : Roles) (new : RolesView) (orders : List RoleOrder) : Type 0 where
+pub record AdvanceYields (c : Core) (r : Roles) (new : RolesView) (orders : List RoleOrder) : Type 0 where
   pub roles : RolesRepresent new (after_roles c r)
   pub orders_are : orders ≡ orders_now c r
 

@@ -1,10 +1,10 @@
--- The stamp of each clock's last order, by rising clock (own).
+-- The stamp of each clock's last order, by rising clock (project).
 use Rattle.std.specs.Prelude.{ℕ, List, map, fold, slice_index_or, slice_set}
 use Rattle.std.specs.List.{range_with_len}
 use Rattle.ptp_profile.specs.declared.roles.RoleOrder.{RoleOrder}
 use Rattle.ptp_profile.specs.declared.roles.Stamp.{Stamp}
 use Rattle.ptp_profile.specs.declared.seats.Held.{Held}
-use Rattle.ptp_profile.specs.Roles.{no_stamp, stamp_of}
+use Rattle.ptp_profile.specs.Roles.Edges.{no_stamp, stamp_of}
 
 -- the stamp of a clock; a clock that is not there has that before the first order
 abbrev pub stamp_at : List Stamp → ℕ → Stamp
@@ -12,7 +12,12 @@ stamp_at stamps clock = slice_index_or stamps clock no_stamp
 
 -- a clock with its stamp
 abbrev pub held_at : List Stamp → ℕ → Held
-held_at stamps clock = record { clock = clock; gener = (stamp_at stamps clock).gener; ctrl = (stamp_at stamps clock).ctrl }
+held_at stamps clock =
+    record {
+      clock = clock;
+      gener = (stamp_at stamps clock).gener;
+      ctrl = (stamp_at stamps clock).ctrl;
+    }
 
 -- the stamp that an order gives its clock
 abbrev pub stamp_by : RoleOrder → Stamp

@@ -1,7 +1,7 @@
 ghost use Rattle.std.specs.Prelude.{◌≡◌, ◌+◌, ◌*◌, ◌<◌, ◌≤◌, ◌++◌, All, [], fold, length, take};
-ghost use Rattle.ptp_profile.specs.Roles.{edges_of, orders_of};
-ghost use Rattle.role_gen.specs.Generations.{HaveCtrls};
-ghost use Rattle.bc_roles.specs.NextRoles.{AreEdges, GoesOn};
+ghost use Rattle.ptp_profile.specs.Roles.Edges.{edges_of, orders_of};
+ghost use Rattle.role_gen.specs.Generation.{HaveCtrls};
+ghost use Rattle.bc_roles.specs.NextGeneration.{AreEdges, GenerationYields};
 ghost use Rattle.bc_roles.specs.OrderRules.{with_given, AreAllowed, IsAllowed};
 ghost use Rattle.bc_roles.specs.RolesInvariant.{SeatsAgree};
 ghost use Rattle.bc_roles.specs.RolesView.{roles_view};
@@ -112,7 +112,7 @@ pub(crate) fn go_on(
     requires spare { length drafts.now ≤ seats.old.spare }
     requires empty { out.items ≡ [] }
     requires room { length drafts.now ≤ out.spare }
-    ensures goes { GoesOn (roles_view generations.old stamps.old.items seats.old) next.now
+    ensures goes { GenerationYields (roles_view generations.old stamps.old.items seats.old) next.now
         (roles_view generations.new stamps.new.items seats.new) result }
     ensures agree { SeatsAgree stamps.new.items seats.new }
 {

@@ -1,14 +1,14 @@
 ghost use Rattle.std.specs.Prelude.{◌≡◌, ◌≢◌, ◌+◌, ◌*◌, ◌<◌, ◌≤◌, All, [], length, IfErr, IfOk, OnErr, OnOk};
 ghost use Rattle.model_clock.specs.Clock.{IsClock};
 ghost use Rattle.ptp_base.specs.Floor.{IsWithin};
-ghost use Rattle.ptp_profile.specs.Logs.{change_of, exchange_answer, logs_from, with_orders, HasOrder, IsRefusal};
-ghost use Rattle.discipline_seat.specs.Seats.{log_of, reading_of, with_entry};
+ghost use Rattle.ptp_profile.specs.Roles.SeatLogs.{change_of, exchange_answer, logs_from, with_orders, HasOrder, IsRefusal};
+ghost use Rattle.discipline_seat.specs.SeatsView.{log_of, reading_of, with_entry};
 ghost use Rattle.bc_history.specs.declared.scenario.Scenario.{Scenario};
-ghost use Rattle.bc_history.specs.Opening.{opening};
-ghost use Rattle.bc_history.specs.RolePhase.{clocks_of, states_of};
-ghost use Rattle.bc_history.specs.State.{Core, Roles as HistoryRoles};
-ghost use Rattle.bc_history.specs.Step.{held_of};
-ghost use Rattle.bc_roles.specs.RolesView.{no_roles, HaveAdvanced, IsSameTable, RolesRepresent};
+ghost use Rattle.bc_history.specs.Phases.OpeningState.{opening};
+ghost use Rattle.bc_history.specs.Phases.RolePhase.{clocks_of, states_of};
+ghost use Rattle.bc_history.specs.Phases.State.{Core, Roles as HistoryRoles};
+ghost use Rattle.bc_history.specs.Phases.Step.{held_of};
+ghost use Rattle.bc_roles.specs.RolesView.{no_roles, AdvanceYields, IsSameTable, RolesRepresent};
 ghost use Rattle.bc_roles.specs.Stamps.{held_at};
 
 use crate::orders::{draft, go_on, place_edges};
@@ -149,7 +149,7 @@ impl Roles {
         requires spare { 2 * length self.old.stamps ≤ self.old.seats.spare }
         ensures advanced { (c : Core) (r : HistoryRoles) → parent ≡ c.master.parent
             → states.now ≡ states_of c.ports → map.now ≡ clocks_of c.ports
-            → RolesRepresent self.old r → HaveAdvanced c r self.new result }
+            → RolesRepresent self.old r → AdvanceYields c r self.new result }
         ensures logs { self.new.seats.logs ≡ with_orders self.old.seats.logs result }
         ensures short { length result ≤ 2 * length self.old.stamps }
         ensures same { IsSameTable self.old self.new }

@@ -1,5 +1,5 @@
-pub mod Reading
-pub mod Rooms
-pub mod Effects
-pub mod Machine
-pub mod Hubs
+pub mod PortReading
+pub mod EffectRooms
+pub mod EffectParts
+pub mod HubParts
+pub mod HubView

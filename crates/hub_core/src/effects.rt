@@ -1,6 +1,6 @@
 ghost use Rattle.std.specs.Prelude.{◌≡◌, length, map};
-ghost use Rattle.hub_core.specs.Effects.{effects_with, sent_by};
-ghost use Rattle.hub_core.specs.Rooms.{HasPlacesFor};
+ghost use Rattle.hub_core.specs.EffectParts.{effects_with, sent_by};
+ghost use Rattle.hub_core.specs.EffectRooms.{HasPlacesFor};
 
 use bc_history::{Effects, RoleOrders, Sends, Sent};
 use bc_ports::EventOutcome;

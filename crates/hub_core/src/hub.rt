@@ -1,19 +1,19 @@
 ghost use Rattle.std.specs.Prelude.{◌≡◌, ◌↔◌, length, reverse, Err, IfOk, OnOk, OnErr};
 ghost use Rattle.std.specs.Option.{option_and_then};
 ghost use Rattle.ptp_base.specs.declared.limits.TheConstants.{ENTRIES_MAX};
-ghost use Rattle.ptp_profile.specs.Logs.{logs_from};
-ghost use Rattle.ptp_profile.specs.Timers.{due_of};
-ghost use Rattle.bc_history.specs.History.{IsHistory};
-ghost use Rattle.bc_history.specs.Inputs.{port_at};
-ghost use Rattle.bc_history.specs.Next.{IsDue};
-ghost use Rattle.bc_history.specs.State.{HubPort};
-ghost use Rattle.bc_history.specs.Step.{state_of};
-ghost use Rattle.hub_core.specs.Hubs.{AreLawfulLogs, HubState, IsOwn, draft_entry, entry_by, newest_seen, opened, reading_at, with_entry};
+ghost use Rattle.ptp_profile.specs.Roles.SeatLogs.{logs_from};
+ghost use Rattle.ptp_profile.specs.Port.PortTimers.{due_of};
+ghost use Rattle.bc_history.specs.Run.History.{IsHistory};
+ghost use Rattle.bc_history.specs.Phases.Inputs.{port_at};
+ghost use Rattle.bc_history.specs.Run.NextInputs.{IsDue};
+ghost use Rattle.bc_history.specs.Phases.HubPort.{HubPort};
+ghost use Rattle.bc_history.specs.Phases.Step.{state_of};
+ghost use Rattle.hub_core.specs.HubView.{AreLawfulLogs, HubState, IsPortInput, draft_entry, entry_by, newest_seen, hub_at_opening, reading_at, with_entry};
 
-use crate::copies::trimmed_entry;
-use crate::machine::Machine;
+use crate::effect_copies::trimmed_entry;
+use crate::effect_rooms::{EffectCopies, EffectRooms};
+use crate::hub_parts::HubParts;
 use crate::own_input::port_input;
-use crate::rooms::{Copies, Rooms};
 use bc_history::{Effects, Entries, Entry, Input, Logs, Scenario};
 use ptp_base::{ENTRIES_MAX, Items, NoMemory};
 use ptp_profile::Timer;
@@ -48,13 +48,13 @@ impl From<NoMemory> for HubError {
 pub struct Hub {
     alloc: Global,
     scenario: Snapshot<Scenario>,
-    machine: Machine,
+    machine: HubParts,
     entries: Entries,
     asked: u32,
 }
 
 impl Model for Hub {
-    ghost use Rattle.hub_core.specs.Hubs.{HubState, history_of, IsHub};
+    ghost use Rattle.hub_core.specs.HubView.{HubState, history_of, IsHub};
 
     ghost Value = { HubState };
 
@@ -66,13 +66,13 @@ impl Model for Hub {
 impl Hub {
     /// A hub before its first event.
     pub fn new(alloc: Global, s: &Scenario) -> Result<Hub, NoMemory>
-        ensures { IfOk result (λ hub. hub ≡ opened s.now) }
+        ensures { IfOk result (λ hub. hub ≡ hub_at_opening s.now) }
     {
         s.rules();
         Ok(Hub {
             alloc,
             scenario: Snapshot::of(s),
-            machine: Machine::new(alloc, s)?,
+            machine: HubParts::new(alloc, s)?,
             entries: Items::new(alloc),
             asked: 0,
         })
@@ -84,7 +84,7 @@ impl Hub {
     /// as it was.
     pub fn event(&mut self, input: Input) -> Result<Effects, HubError>
         requires due { IsDue self.old.scenario (state_of self.old.scenario self.old.entries) input }
-        requires own { IsOwn input }
+        requires own { IsPortInput input }
         ensures events { (result ≡ Err HubError.Events) ↔ (length self.old.entries ≡ ENTRIES_MAX) }
         ensures entry { OnOk result (self.new
             ≡ with_entry self.old (entry_by self.old input (newest_seen self.new.entries))) }
@@ -98,8 +98,8 @@ impl Hub {
         }
         let ports = self.machine.core.ports.len();
         let clocks = self.machine.roles.clocks();
-        let rooms = Rooms::with(self.alloc, ports, clocks)?;
-        let copies = Copies::with(self.alloc, ports, clocks)?;
+        let rooms = EffectRooms::with(self.alloc, ports, clocks)?;
+        let copies = EffectCopies::with(self.alloc, ports, clocks)?;
         self.machine.roles.reserve()?;
         let last = self.entries.len();
         self.entries.push(draft(self.alloc))?;

@@ -3,13 +3,13 @@
 //! each clock. `Hub` keeps the history, whose entries tell all of that, and the clocks' logs.
 #![tactic(auto)]
 
-mod copies;
+mod effect_copies;
+mod effect_rooms;
 mod effects;
 mod hub;
-mod machine;
+mod hub_parts;
 mod opening;
 mod own_input;
-mod rooms;
 
 pub use bc_history::{
     Answers, AskError, Effects, Entries, Entry, Input, Logs, Moved, Moves, Outcome, RoleOrders,

@@ -1,10 +1,10 @@
 ghost use Rattle.std.specs.Prelude.{◌≡◌, map, IfOk};
-ghost use Rattle.ptp_base.specs.declared.port.PortConf.{PortConf};
-ghost use Rattle.ptp_profile.specs.Logs.{no_logs};
-ghost use Rattle.bc_history.specs.Opening.{opening};
-ghost use Rattle.hub_core.specs.Machine.{IsMachine};
+ghost use Rattle.ptp_base.specs.declared.port_conf.PortConf.{PortConf};
+ghost use Rattle.ptp_profile.specs.Roles.SeatLogs.{no_logs};
+ghost use Rattle.bc_history.specs.Phases.OpeningState.{opening};
+ghost use Rattle.hub_core.specs.HubParts.{PartsRepresent};
 
-use crate::machine::Machine;
+use crate::hub_parts::HubParts;
 use bc_history::Scenario;
 use bc_ports::BoundaryClock;
 use bc_roles::Roles;
@@ -13,7 +13,8 @@ use std::alloc::Global;
 
 /// The clock of each port.
 fn clocks_of(alloc: Global, confs: &[PortConf]) -> Result<Vec<u8>, NoMemory>
-    ensures { IfOk result (λ clocks. clocks.items ≡ map (λ (conf : PortConf). conf.clock) confs.now) }
+    ensures { IfOk result
+        (λ clocks. clocks.items ≡ map (λ (conf : PortConf). conf.clock) confs.now) }
 {
     let mut clocks = Vec::new(alloc);
     for conf in confs {
@@ -22,15 +23,15 @@ fn clocks_of(alloc: Global, confs: &[PortConf]) -> Result<Vec<u8>, NoMemory>
     Ok(clocks)
 }
 
-impl Machine {
+impl HubParts {
     /// As a run begins.
-    pub fn new(alloc: Global, s: &Scenario) -> Result<Machine, NoMemory>
-        ensures machine { IfOk result (λ m. IsMachine s.now m (opening s.now)) }
+    pub fn new(alloc: Global, s: &Scenario) -> Result<HubParts, NoMemory>
+        ensures machine { IfOk result (λ m. PartsRepresent s.now m (opening s.now)) }
         ensures logs { IfOk result (λ m. m.roles.seats.logs ≡ no_logs s.now.clocks) }
         ensures gener { IfOk result (λ m. m.roles.generation.gener ≡ 0) }
     {
         s.rules();
-        Ok(Machine {
+        Ok(HubParts {
             port_clocks: clocks_of(alloc, s.ports.items())?,
             core: BoundaryClock::new(alloc, s)?,
             roles: Roles::new(alloc, s.clocks.items(), s.options.seat_rows)?,

@@ -1,12 +1,12 @@
 ghost use Rattle.std.specs.Prelude.{◌≡◌, Some};
-ghost use Rattle.bc_history.specs.Inputs.{history_input, port_input};
-ghost use Rattle.hub_core.specs.Hubs.{IsOwn};
+ghost use Rattle.bc_history.specs.Phases.Inputs.{history_input, port_input};
+ghost use Rattle.hub_core.specs.HubView.{IsPortInput};
 
 use bc_history::{Input, PortHappening, PortInput};
 
 /// An input of a port's own as such. Queries and the inputs of followers are none.
 pub fn port_input(input: Input) -> PortInput
-    requires { IsOwn input }
+    requires { IsPortInput input }
     ensures { port_input input ≡ Some result }
 {
     let (number, tick, what) = match input {

@@ -3,15 +3,15 @@ use Rattle.std.specs.Prelude.{slice_get, option_map}
 use Rattle.std.proofs.lemmas.List.{length-set}
 use Rattle.std.proofs.lemmas.Option.{slice_get-map, get_or_from_slice_get}
 use Rattle.ptp_base.specs.declared.announcement.Announcement.{Announcement}
-use Rattle.ptp_base.specs.declared.decision.Code.{Code}
-use Rattle.ptp_base.specs.declared.decision.Code.TheVariants.{Stay}
-use Rattle.ptp_profile.specs.declared.port.PortEvent.TheVariants.{Decided}
-use Rattle.ptp_profile.specs.Port.{after_event}
-use Rattle.bc_history.specs.DecisionPhase.{with_code, code_with}
-use Rattle.bc_history.specs.State.{HubPort}
+use Rattle.ptp_base.specs.declared.code.Code.{Code}
+use Rattle.ptp_base.specs.declared.code.Code.TheVariants.{Stay}
+use Rattle.ptp_profile.specs.declared.port_event.PortEvent.TheVariants.{Decided}
+use Rattle.ptp_profile.specs.Port.Port.{after_event}
+use Rattle.bc_history.specs.Phases.DecisionPhase.{with_code, code_with}
+use Rattle.bc_history.specs.Phases.HubPort.{HubPort}
 use Rattle.bc_ports.specs.Representation.{PortRepresents, PortsRepresent, IsSamePort, Represents}
 use Rattle.bc_ports.specs.declared.hub_port.HubPort.{HubPort as KeptPort}
-use Rattle.bc_ports.proofs.RepresentationLemmas.{PortsRepresent-mapped, PortsRepresent-length, ArePortsOf-set, mapped-all}
+use Rattle.bc_ports.proofs.lemmas.RepresentationLemmas.{PortsRepresent-mapped, PortsRepresent-length, ArePortsOf-set, mapped-all}
 use Rattle.bc_ports.proofs.decision.decide_ports.Goals as goal
 
 -- the code at an index

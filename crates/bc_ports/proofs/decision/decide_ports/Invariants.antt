@@ -2,10 +2,10 @@ use Rattle.std.proofs.Common.{◌≡◌, ℕ, List, map, length, Option}
 use Rattle.ptp_base.specs.declared.announcement.Announcement.{Announcement}
 use Rattle.ptp_base.specs.declared.identity.PortId.{PortId}
 use Rattle.bc_history.specs.declared.scenario.Options.{Options}
-use Rattle.bc_history.specs.DecisionPhase.{is_new_parent, with_code, code_with}
-use Rattle.bc_history.specs.State.{HubPort}
+use Rattle.bc_history.specs.Phases.DecisionPhase.{is_new_parent, with_code, code_with}
+use Rattle.bc_history.specs.Phases.HubPort.{HubPort}
 use Rattle.bc_ports.specs.Representation.{PortsRepresent, ArePortsOf}
-use Rattle.bc_ports.proofs.RepresentationLemmas.{mapped}
+use Rattle.bc_ports.proofs.lemmas.RepresentationLemmas.{mapped}
 use Rattle.bc_ports.proofs.decision.decide_ports.Given as goal
 
 abbrev pub invariant-loop-i : goal.invariant-loop-i

@@ -2,13 +2,13 @@ use Rattle.std.proofs.Common.{◌≡◌, ◌∙◌, ◌-◌, ◌<◌, suc, List,
 use Rattle.std.proofs.lemmas.List.{append-nil}
 use Rattle.std.proofs.lemmas.List.Elements.{All-push}
 use Rattle.ptp_base.specs.Room.{Reserved}
-use Rattle.ptp_base.specs.declared.port.PortState.{PortState}
+use Rattle.ptp_base.specs.declared.port_state.PortState.{PortState}
 use Rattle.ptp_base.specs.declared.announcement.Announcement.{Announcement}
-use Rattle.bc_history.specs.DecisionPhase.{best_of}
-use Rattle.ptp_profile.specs.declared.foreign.PortBest.{PortBest}
-use Rattle.bc_history.specs.State.{HubPort}
-use Rattle.bc_ports.specs.Scratch.{IsNear, port_bests}
-use Rattle.bc_ports.proofs.RepresentationLemmas.{PortsRepresent-next, PortsRepresent-end}
+use Rattle.bc_history.specs.Phases.DecisionPhase.{best_of}
+use Rattle.ptp_profile.specs.declared.port_best.PortBest.{PortBest}
+use Rattle.bc_history.specs.Phases.HubPort.{HubPort}
+use Rattle.bc_ports.specs.DecisionScratch.{IsNear, port_bests}
+use Rattle.bc_ports.proofs.lemmas.RepresentationLemmas.{PortsRepresent-next, PortsRepresent-end}
 use Rattle.bc_ports.proofs.decision.push_bests.Goals as goal
 
 abbrev hears : PortState → Option Announcement → PortBest

@@ -1,9 +1,9 @@
 use Rattle.std.proofs.Common.{◌≡◌, ℕ, ◌+◌, ◌≤◌, List, ◌++◌, drop, length}
 use Rattle.std.specs.Prelude.{All}
-use Rattle.ptp_profile.specs.declared.foreign.PortBest.{PortBest}
-use Rattle.bc_history.specs.State.{HubPort}
+use Rattle.ptp_profile.specs.declared.port_best.PortBest.{PortBest}
+use Rattle.bc_history.specs.Phases.HubPort.{HubPort}
 use Rattle.bc_ports.specs.Representation.{PortsRepresent}
-use Rattle.bc_ports.specs.Scratch.{IsNear, port_bests}
+use Rattle.bc_ports.specs.DecisionScratch.{IsNear, port_bests}
 use Rattle.bc_ports.proofs.decision.push_bests.Given as goal
 
 abbrev pub invariant-loop-port : goal.invariant-loop-port

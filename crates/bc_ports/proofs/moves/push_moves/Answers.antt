@@ -1,10 +1,10 @@
 use Rattle.std.proofs.Common.{◌≡◌, ◌∙◌, ◌+◌, ◌<◌, List, ◌++◌, length, set, ap, sym, arith}
-use Rattle.ptp_base.specs.declared.port.PortState.{PortState}
-use Rattle.ptp_base.specs.declared.port.PortState.TheVariants.{Initializing}
+use Rattle.ptp_base.specs.declared.port_state.PortState.{PortState}
+use Rattle.ptp_base.specs.declared.port_state.PortState.TheVariants.{Initializing}
 use Rattle.data_sets.specs.declared.port_set.PortSet.{PortSet}
 use Rattle.bc_history.specs.declared.entry.Moved.{Moved}
-use Rattle.bc_ports.specs.Scratch.{states_in}
-use Rattle.bc_ports.proofs.MoveLemmas.{get-there, moves-one, regroup, state-between, states_in-at, states_in-length}
+use Rattle.bc_ports.specs.DecisionScratch.{states_in}
+use Rattle.bc_ports.proofs.lemmas.MoveLemmas.{get-there, moves-one, regroup, state-between, states_in-at, states_in-length}
 use Rattle.bc_ports.proofs.moves.push_moves.Goals as goal
 
 pub loop-i-preserved : goal.loop-i-preserved

@@ -1,6 +1,6 @@
 use Rattle.std.proofs.Common.{◌≡◌, ◌≤◌, ◌+◌, ◌*◌, ◌++◌, drop, length, set}
-use Rattle.bc_history.specs.Effects.{moves_from}
-use Rattle.bc_ports.specs.Scratch.{states_in}
+use Rattle.bc_history.specs.Phases.EntryEffects.{moves_from}
+use Rattle.bc_ports.specs.DecisionScratch.{states_in}
 use Rattle.bc_ports.proofs.moves.push_moves.Given as goal
 
 abbrev pub invariant-loop-i : goal.invariant-loop-i

@@ -1,10 +1,10 @@
 use Rattle.std.proofs.Common.{◌≡◌, ◌∙◌, ◌-◌, ◌<◌, suc, List, [], ◌∷◌, ◌++◌, drop, length, ap, sym, arith, add-one, append_assoc, length-append}
 use Rattle.std.proofs.lemmas.List.{append-nil}
 use Rattle.ptp_base.specs.Room.{Reserved}
-use Rattle.ptp_base.specs.declared.port.PortState.{PortState}
-use Rattle.bc_history.specs.RolePhase.{states_of}
-use Rattle.bc_history.specs.State.{HubPort}
-use Rattle.bc_ports.proofs.RepresentationLemmas.{PortsRepresent-next, PortsRepresent-end}
+use Rattle.ptp_base.specs.declared.port_state.PortState.{PortState}
+use Rattle.bc_history.specs.Phases.RolePhase.{states_of}
+use Rattle.bc_history.specs.Phases.HubPort.{HubPort}
+use Rattle.bc_ports.proofs.lemmas.RepresentationLemmas.{PortsRepresent-next, PortsRepresent-end}
 use Rattle.bc_ports.proofs.moves.push_states.Goals as goal
 
 pub loop-port-preserved : goal.loop-port-preserved

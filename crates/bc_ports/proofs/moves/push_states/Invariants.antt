@@ -1,6 +1,6 @@
 use Rattle.std.proofs.Common.{◌≡◌, ℕ, ◌+◌, ◌≤◌, List, ◌++◌, drop, length}
-use Rattle.bc_history.specs.RolePhase.{states_of}
-use Rattle.bc_history.specs.State.{HubPort}
+use Rattle.bc_history.specs.Phases.RolePhase.{states_of}
+use Rattle.bc_history.specs.Phases.HubPort.{HubPort}
 use Rattle.bc_ports.specs.Representation.{PortsRepresent}
 use Rattle.bc_ports.proofs.moves.push_states.Given as goal
 

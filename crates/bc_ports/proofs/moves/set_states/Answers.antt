@@ -1,9 +1,9 @@
 use Rattle.std.proofs.Common.{◌≡◌, ◌∙◌, suc, List, length, set, ap, subst, add-one, Some}
 use Rattle.std.specs.Prelude.{slice_get, slice_index_or}
-use Rattle.ptp_base.specs.declared.port.PortState.{PortState}
-use Rattle.ptp_base.specs.declared.port.PortState.TheVariants.{Initializing}
+use Rattle.ptp_base.specs.declared.port_state.PortState.{PortState}
+use Rattle.ptp_base.specs.declared.port_state.PortState.TheVariants.{Initializing}
 use Rattle.data_sets.specs.declared.port_set.PortSet.{PortSet}
-use Rattle.bc_ports.proofs.MoveLemmas.{get-there, stated, stated-all, stated-length, stated-next}
+use Rattle.bc_ports.proofs.lemmas.MoveLemmas.{get-there, stated, stated-all, stated-length, stated-next}
 use Rattle.bc_ports.proofs.moves.set_states.Goals as goal
 
 pub loop-i-preserved : goal.loop-i-preserved

@@ -1,5 +1,5 @@
 use Rattle.std.proofs.Common.{◌≡◌, length}
-use Rattle.bc_ports.proofs.MoveLemmas.{stated}
+use Rattle.bc_ports.proofs.lemmas.MoveLemmas.{stated}
 use Rattle.bc_ports.proofs.moves.set_states.Given as goal
 
 abbrev pub invariant-loop-i : goal.invariant-loop-i

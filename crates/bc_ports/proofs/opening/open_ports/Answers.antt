@@ -1,9 +1,9 @@
 use Rattle.std.proofs.Common.{◌≡◌, ◌+◌, ◌<◌, ℕ, pos, List, ◌++◌, ◌∷◌, [], length, take, get_or, subst, sym, arith}
 use Rattle.std.proofs.lemmas.List.{take_more, length-take-le}
-use Rattle.ptp_base.specs.declared.port.PortConf.{PortConf}
-use Rattle.bc_ports.specs.Opening.{ArePortsFrom, IsOpenPort}
+use Rattle.ptp_base.specs.declared.port_conf.PortConf.{PortConf}
+use Rattle.bc_ports.specs.OpenPorts.{ArePortsFrom, IsOpenPort}
 use Rattle.bc_ports.specs.declared.hub_port.HubPort.{HubPort as KeptPort}
-use Rattle.bc_ports.proofs.OpeningLemmas.{ArePortsFrom-push}
+use Rattle.bc_ports.proofs.lemmas.OpenPortLemmas.{ArePortsFrom-push}
 use Rattle.bc_ports.proofs.opening.open_ports.Goals as goal
 
 pub loop-conf-preserved : goal.loop-conf-preserved
@@ -25,3 +25,8 @@ loop-conf-preserved c =
       count = omega (arith, at.invariant.count, c.in_ok-push.ensures.len);
       ports = subst Q (sym c.in_ok-push.ensures.items) (subst T (sym (take_more c.args.confs.now at.conf-index none lt)) (ArePortsFrom-push o 1 at.ports.items (take at.conf-index c.args.confs.now) q conf at.invariant.ports one));
     }
+
+pub open_port-requires-clause-conf : goal.open_port-requires-clause-conf
+open_port-requires-clause-conf c =
+    let none : PortConf = record { clock = 0; log_announce = pos 0; log_sync = pos 0; log_delay = pos 0; receipt = 0 } in
+    c.requires.confs c.loop-conf.conf-index none (omega arith)

@@ -1,5 +1,5 @@
 use Rattle.std.proofs.Common.{◌≡◌, take}
-use Rattle.bc_ports.specs.Opening.{ArePortsFrom}
+use Rattle.bc_ports.specs.OpenPorts.{ArePortsFrom}
 use Rattle.bc_ports.proofs.opening.open_ports.Given as goal
 
 abbrev pub invariant-loop-conf : goal.invariant-loop-conf

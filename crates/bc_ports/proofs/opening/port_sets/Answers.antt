@@ -1,9 +1,9 @@
 use Rattle.std.proofs.Common.{◌≡◌, ◌∙◌, ◌+◌, ◌<◌, ℕ, pos, List, ◌++◌, ◌∷◌, [], length, take, get_or, ap, sym, arith}
 use Rattle.std.proofs.lemmas.List.{take_more, length-take-le}
-use Rattle.ptp_base.specs.declared.port.PortConf.{PortConf}
+use Rattle.ptp_base.specs.declared.port_conf.PortConf.{PortConf}
 use Rattle.data_sets.specs.declared.port_set.PortSet.{PortSet}
-use Rattle.bc_ports.specs.Opening.{port_set_from, port_sets_from}
-use Rattle.bc_ports.proofs.OpeningLemmas.{port_sets_from-push}
+use Rattle.bc_ports.specs.OpenPorts.{port_set_from, port_sets_from}
+use Rattle.bc_ports.proofs.lemmas.OpenPortLemmas.{port_sets_from-push}
 use Rattle.bc_ports.proofs.opening.port_sets.Goals as goal
 
 pub loop-conf-preserved : goal.loop-conf-preserved

@@ -1,5 +1,5 @@
 use Rattle.std.proofs.Common.{◌≡◌, take}
-use Rattle.bc_ports.specs.Opening.{port_sets_from}
+use Rattle.bc_ports.specs.OpenPorts.{port_sets_from}
 use Rattle.bc_ports.proofs.opening.port_sets.Given as goal
 
 abbrev pub invariant-loop-conf : goal.invariant-loop-conf

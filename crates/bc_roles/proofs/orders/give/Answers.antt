@@ -1,8 +1,8 @@
 use Rattle.std.proofs.Common.{arith, sym, subst}
-use Rattle.discipline_seat.specs.Seats.{Seats}
+use Rattle.discipline_seat.specs.SeatsView.{Seats}
 use Rattle.bc_roles.specs.RolesInvariant.{SeatsAgree}
 use Rattle.bc_roles.specs.Stamps.{with_stamp}
-use Rattle.bc_roles.proofs.Agreement.{seats-take, SeatsAgree-given, SeatsTake}
+use Rattle.bc_roles.proofs.lemmas.SeatsAgreeLemmas.{seats-take, SeatsAgree-given, SeatsTake}
 use Rattle.bc_roles.proofs.orders.give.Goals as goal
 
 pub order-requires : goal.order-requires

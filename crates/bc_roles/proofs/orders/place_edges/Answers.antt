@@ -1,8 +1,8 @@
 use Rattle.std.proofs.Common.{◌≡◌, ◌++◌, drop, length, sym, subst, take, arith}
 use Rattle.std.proofs.lemmas.Grind.{common_steps}
-use Rattle.ptp_profile.specs.Roles.{edges_of}
-use Rattle.bc_roles.specs.NextRoles.{AreEdges}
-use Rattle.bc_roles.proofs.EdgeHolders.{AreEdges-placed}
+use Rattle.ptp_profile.specs.Roles.Edges.{edges_of}
+use Rattle.bc_roles.specs.NextGeneration.{AreEdges}
+use Rattle.bc_roles.proofs.lemmas.EdgeHolderLemmas.{AreEdges-placed}
 use Rattle.bc_roles.proofs.orders.place_edges.Goals as goal
 
 pub returns-clause-forest : goal.returns-clause-forest

@@ -1,6 +1,6 @@
 use Rattle.std.proofs.Common.{◌≡◌, ◌≤◌, ◌++◌, length, map}
 use Rattle.std.specs.Vec.Iter.{into_iter_items, into_iter_len}
-use Rattle.hub_core.specs.Effects.{sent_by}
+use Rattle.hub_core.specs.EffectParts.{sent_by}
 use Rattle.hub_core.proofs.effects.sends_of.Given as goal
 
 abbrev pub invariant-loop-octets : goal.invariant-loop-octets

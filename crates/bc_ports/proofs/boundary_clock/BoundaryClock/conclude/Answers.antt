@@ -1,8 +1,8 @@
 use Rattle.std.proofs.Common.{◌≡◌, ◌∙◌, Option, true, ap, rules, subst, sym}
-use Rattle.ptp_profile.specs.declared.port.Fate.{Fate}
-use Rattle.bc_history.specs.Inputs.{port_at}
-use Rattle.bc_history.specs.PortPhase.{after_port, fate_at}
-use Rattle.bc_history.specs.DecisionPhase.{raises, with_decision}
+use Rattle.ptp_profile.specs.declared.port_event.Fate.{Fate}
+use Rattle.bc_history.specs.Phases.Inputs.{port_at}
+use Rattle.bc_history.specs.Phases.PortPhase.{after_port, fate_at}
+use Rattle.bc_history.specs.Phases.DecisionPhase.{raises_decision, with_decision}
 use Rattle.bc_ports.specs.Representation.{CoreRepresents}
 use Rattle.bc_ports.proofs.boundary_clock.BoundaryClock.conclude.Goals as goal
 
@@ -10,7 +10,7 @@ pub returns-then-outcome-clause-core : goal.returns-then-outcome-clause-core
 returns-then-outcome-clause-core c = λ o core before after y.
     let e = c.args.entry.now in
     let raised : c.args.outcome.now.raises ≡ true = search rules in
-    let is : raises (fate_at o e core) (port_at core.ports e.input.number) e.input.tick e.input.what ≡ true =
-    ap (λ (f : Option Fate). raises f (port_at core.ports e.input.number) e.input.tick e.input.what) (sym y.fate) ∙ (sym y.raises_is ∙ raised) in
+    let is : raises_decision (fate_at o e core) (port_at core.ports e.input.number) e.input.tick e.input.what ≡ true =
+    ap (λ (f : Option Fate). raises_decision f (port_at core.ports e.input.number) e.input.tick e.input.what) (sym y.fate) ∙ (sym y.raises_is ∙ raised) in
     let R : Option Fate → Type 0 = λ f. CoreRepresents o c.rule.new.self (with_decision o f e.input.number (after_port o e core)) in
     rw is (subst R y.fate (c.rule.ensures.core o c.args.outcome.now.fate (after_port o e core) y.sender y.clock))

@@ -2,21 +2,21 @@ use Rattle.std.proofs.Common.{◌≡◌, ◌∙◌, ◌<◌, List, length, map, 
 use Rattle.std.specs.Prelude.{fold}
 use Rattle.std.proofs.lemmas.List.{with_items_is}
 use Rattle.ptp_base.specs.declared.announcement.Announcement.{Announcement}
-use Rattle.ptp_base.specs.declared.decision.Code.{Code}
+use Rattle.ptp_base.specs.declared.code.Code.{Code}
 use Rattle.ptp_base.specs.declared.limits.TheConstants.{STEPS_END}
-use Rattle.ptp_profile.specs.declared.foreign.PortBest.{PortBest}
-use Rattle.ptp_profile.specs.DataSets.{applied}
-use Rattle.ptp_profile.specs.Decision.{bests_of}
-use Rattle.ptp_profile.specs.Foreign.{ebest}
-use Rattle.data_sets.specs.Masters.{master_in}
-use Rattle.state_decision.specs.Codes.{codes_with}
-use Rattle.bc_history.specs.DecisionPhase.{with_code}
-use Rattle.bc_history.specs.Opening.{own_of}
+use Rattle.ptp_profile.specs.declared.port_best.PortBest.{PortBest}
+use Rattle.ptp_profile.specs.Best.MasterData.{after_code}
+use Rattle.ptp_profile.specs.Best.StateDecision.{bests_of}
+use Rattle.ptp_profile.specs.Best.ForeignMasters.{ebest}
+use Rattle.data_sets.specs.DataSetsView.{master_in}
+use Rattle.state_decision.specs.PortCodes.{codes_with}
+use Rattle.bc_history.specs.Phases.DecisionPhase.{with_code}
+use Rattle.bc_history.specs.Phases.OpeningState.{local_announcement}
 use Rattle.bc_ports.specs.Representation.{ArePortsOf, PortsRepresent}
-use Rattle.bc_ports.specs.Scratch.{IsNear, port_bests}
+use Rattle.bc_ports.specs.DecisionScratch.{IsNear, port_bests}
 use Rattle.bc_ports.specs.declared.hub_port.HubPort.{HubPort as KeptPort}
-use Rattle.bc_ports.proofs.CodeLemmas.{fold-has}
-use Rattle.bc_ports.proofs.DecisionLemmas.{decided-core}
+use Rattle.bc_ports.proofs.lemmas.PortCodeLemmas.{fold-has}
+use Rattle.bc_ports.proofs.lemmas.DecisionLemmas.{decided-core}
 use Rattle.bc_ports.proofs.boundary_clock.BoundaryClock.decide.Goals as goal
 
 pub apply_codes-requires : goal.apply_codes-requires
@@ -38,7 +38,7 @@ returns-clause-core c = λ o core is.
     let m = c.args.self.now.moment in
     let d = c.args.self.now.sets in
     let hs = core.ports in
-    let own = own_of o in
+    let own = local_announcement o in
     let best = c.ebest-best.result in
     let A : List KeptPort → Type 0 = λ qs. PortsRepresent n m qs hs in
     let bests : c.push_bests.new.out.items ≡ port_bests m hs = c.push_bests.ensures.bests n hs (subst A (sym c.deref.ensures.value) is.ports) in
@@ -47,7 +47,7 @@ returns-clause-core c = λ o core is.
     c.codes_with.ensures ∙ (ap (λ (a : Announcement). codes_with a best c.items-2.result.now) is.clock.own ∙ ap (λ (x : List PortBest). codes_with own best x) (c.items-2.ensures ∙ bests)) in
     let codes_2 = c.deref-2.ensures.value ∙ codes_are c in
     let codes_3 = c.deref-3.ensures.value ∙ codes_are c in
-    let applied_is = c.apply_codes.ensures.master o is.clock ∙ ap (λ (x : List Code). fold (applied own best) (master_in d) x) codes_2 in
+    let applied_is = c.apply_codes.ensures.master o is.clock ∙ ap (λ (x : List Code). fold (after_code own best) (master_in d) x) codes_2 in
     let N : List KeptPort → Type 0 = λ qs. ArePortsOf o 1 qs in
     let numbers = subst N (sym (ports_are c)) (c.decide_ports.ensures.of o (subst N (sym c.deref_mut-2.ensures.value) is.numbers)) in
     decided-core o c.args.self.now _ core best c.codes_with.new.out is best_is codes_is refl (c.apply_codes.ensures.clock o is.clock) numbers applied_is

@@ -1,13 +1,13 @@
 use Rattle.std.proofs.Common.{◌≡◌, ◌∙◌, List, length, ap, arith, refl, subst, sym}
-use Rattle.ptp_base.specs.declared.port.PortConf.{PortConf}
+use Rattle.ptp_base.specs.declared.port_conf.PortConf.{PortConf}
 use Rattle.data_sets.specs.declared.data_sets.DataSets.{DataSets}
 use Rattle.data_sets.specs.declared.port_set.PortSet.{PortSet}
 use Rattle.bc_history.specs.declared.scenario.Options.{Options}
 use Rattle.bc_history.specs.declared.scenario.Scenario.{Scenario}
-use Rattle.bc_history.specs.Opening.{own_of}
-use Rattle.bc_ports.specs.Opening.{ArePortsFrom, port_sets_from}
+use Rattle.bc_history.specs.Phases.OpeningState.{local_announcement}
+use Rattle.bc_ports.specs.OpenPorts.{ArePortsFrom, port_sets_from}
 use Rattle.bc_ports.specs.declared.boundary_clock.BoundaryClock.{BoundaryClock}
-use Rattle.bc_ports.proofs.OpeningLemmas.{clock_opened, own_sets, port_sets_from-length}
+use Rattle.bc_ports.proofs.lemmas.OpenPortLemmas.{clock_opened, own_sets, port_sets_from-length}
 use Rattle.bc_ports.proofs.boundary_clock.BoundaryClock.new.Goals as goal
 
 pub returns-clause-clock : goal.returns-clause-clock
@@ -18,9 +18,9 @@ returns-clause-clock c =
     let confs_2 : c.items-2.result.now ≡ s.ports = c.items-2.ensures ∙ ap (λ (x : Scenario). x.ports) c.s.view_is in
     let S : Options → List PortConf → Type 0 = λ o cs. c.in_ok-sets.sets ≡ port_sets_from o 1 cs in
     let P : Options → List PortConf → Type 0 = λ o cs. ArePortsFrom o 1 c.in_ok-open_ports.field-0.items cs in
-    let D : Options → Type 0 = λ o. c.new.result ≡ own_sets o c.own_of-own.result c.in_ok-sets.sets in
+    let D : Options → Type 0 = λ o. c.new.result ≡ own_sets o c.local_announcement-own.result c.in_ok-sets.sets in
     let n : BoundaryClock = record { moment = 0; sets = c.new.result; ports = c.in_ok-open_ports.field-0; scratch = c.in_ok-with.field-0 } in
-    clock_opened s c.own_of-own.result c.in_ok-sets.sets c.new.result n (c.own_of-own.ensures ∙ ap (λ (o : Options). own_of o) options)
+    clock_opened s c.local_announcement-own.result c.in_ok-sets.sets c.new.result n (c.local_announcement-own.ensures ∙ ap (λ (o : Options). local_announcement o) options)
     (subst (λ (o : Options). S o s.ports) options (subst (S c.s.inside.options) confs c.in_ok-sets.ensures))
     (subst D options c.new.ensures)
     (subst (λ (o : Options). P o s.ports) options (subst (P c.s.inside.options) confs_2 c.in_ok-open_ports.ensures.ports)) refl

@@ -1,5 +1,5 @@
 use Rattle.std.proofs.Common.{◌≡◌, ◌<◌, ◌-◌, suc, length, arith, refl}
-use Rattle.bc_ports.proofs.ClockLemmas.{core-renewed}
+use Rattle.bc_ports.proofs.lemmas.BoundaryClockLemmas.{core-renewed}
 use Rattle.bc_ports.proofs.boundary_clock.BoundaryClock.renew.Goals as goal
 
 pub returns-clause-core : goal.returns-clause-core

@@ -1,17 +1,17 @@
 use Rattle.std.proofs.Common.{◌≡◌, ◌∙◌, ◌++◌, ◌-◌, ◌<◌, suc, List, Option, length, set, ap, arith, subst, sym}
-use Rattle.ptp_base.specs.declared.port.PortState.{PortState}
+use Rattle.ptp_base.specs.declared.port_state.PortState.{PortState}
 use Rattle.ptp_profile.specs.declared.timing.Measure.{Measure}
 use Rattle.data_sets.specs.declared.data_sets.DataSets.{DataSets}
 use Rattle.data_sets.specs.declared.port_set.PortSet.{PortSet}
 use Rattle.bc_history.specs.declared.entry.Moved.{Moved}
 use Rattle.bc_history.specs.declared.scenario.Options.{Options}
-use Rattle.bc_history.specs.Effects.{moves_from}
-use Rattle.bc_history.specs.State.{Core}
+use Rattle.bc_history.specs.Phases.EntryEffects.{moves_from}
+use Rattle.bc_history.specs.Phases.State.{Core}
 use Rattle.bc_ports.specs.ClockYield.{core_at, core_decided}
 use Rattle.bc_ports.specs.Representation.{ClockRepresents, PortsRepresent}
-use Rattle.bc_ports.specs.Scratch.{IsMeasured, states_in, with_states}
+use Rattle.bc_ports.specs.DecisionScratch.{IsMeasured, states_in, with_states}
 use Rattle.bc_ports.specs.declared.hub_port.HubPort.{HubPort as KeptPort}
-use Rattle.bc_ports.proofs.EventLemmas.{IsServed, measured-ports, with_states-length, yields-event}
+use Rattle.bc_ports.proofs.lemmas.EventLemmas.{IsServed, measured-ports, with_states-length, yields-event}
 use Rattle.bc_ports.proofs.boundary_clock.BoundaryClock.serve.Goals as goal
 
 -- portDS of each port with its state

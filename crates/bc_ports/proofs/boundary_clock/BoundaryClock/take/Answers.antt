@@ -2,7 +2,7 @@ use Rattle.std.proofs.Common.{◌≡◌, ◌<◌, ◌-◌, ℤ, suc, length, ari
 use Rattle.std.proofs.lemmas.Int.{to_z-of_z}
 use Rattle.bc_history.specs.declared.port_input.EventContext.{EventContext}
 use Rattle.bc_ports.specs.PortYield.{PortYields}
-use Rattle.bc_ports.proofs.ClockLemmas.{core-taken}
+use Rattle.bc_ports.proofs.lemmas.BoundaryClockLemmas.{core-taken}
 use Rattle.bc_ports.proofs.boundary_clock.BoundaryClock.take.Goals as goal
 
 -- the reading as the port was given it

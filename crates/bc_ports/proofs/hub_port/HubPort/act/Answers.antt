@@ -1,6 +1,6 @@
 use Rattle.std.proofs.Common.{refl, false}
-use Rattle.bc_history.specs.PortPhase.{kept_after}
-use Rattle.bc_ports.proofs.PortLemmas.{keeps-event}
+use Rattle.bc_history.specs.Phases.PortPhase.{kept_after}
+use Rattle.bc_ports.proofs.lemmas.HubPortLemmas.{keeps-event}
 use Rattle.bc_ports.proofs.hub_port.HubPort.act.Goals as goal
 
 pub returns-clause-port : goal.returns-clause-port

@@ -1,6 +1,6 @@
 use Rattle.std.proofs.Common.{Option, subst, sym}
-use Rattle.ptp_profile.specs.declared.port.PortEvent.{PortEvent}
-use Rattle.bc_history.specs.PortPhase.{after_cause}
+use Rattle.ptp_profile.specs.declared.port_event.PortEvent.{PortEvent}
+use Rattle.bc_history.specs.Phases.PortPhase.{after_cause}
 use Rattle.bc_ports.specs.Representation.{PortRepresents}
 use Rattle.bc_ports.proofs.hub_port.HubPort.act_on.Goals as goal
 

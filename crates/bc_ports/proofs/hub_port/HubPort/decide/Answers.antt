@@ -1,6 +1,6 @@
 use Rattle.std.proofs.Common.{refl}
-use Rattle.ptp_profile.specs.declared.port.PortEvent.TheVariants.{Decided}
-use Rattle.bc_ports.proofs.PortLemmas.{keeps-event}
+use Rattle.ptp_profile.specs.declared.port_event.PortEvent.TheVariants.{Decided}
+use Rattle.bc_ports.proofs.lemmas.HubPortLemmas.{keeps-event}
 use Rattle.bc_ports.proofs.hub_port.HubPort.decide.Goals as goal
 
 pub returns-clause-port : goal.returns-clause-port

@@ -1,10 +1,10 @@
 use Rattle.std.proofs.Common.{◌∙◌, sym, ap, refl, Option}
 use Rattle.ptp_base.specs.declared.announcement.Announcement.{Announcement}
 use Rattle.ptp_base.specs.declared.identity.PortId.{PortId}
-use Rattle.ptp_base.specs.declared.port.PortState.{PortState}
-use Rattle.ptp_profile.specs.Machine.{is_dependent}
-use Rattle.bc_history.specs.DecisionPhase.{newest_sender, is_sent_by}
-use Rattle.bc_ports.proofs.PortLemmas.{keeps-renewed}
+use Rattle.ptp_base.specs.declared.port_state.PortState.{PortState}
+use Rattle.ptp_profile.specs.Port.PortStates.{is_dependent}
+use Rattle.bc_history.specs.Phases.DecisionPhase.{newest_sender, is_sent_by}
+use Rattle.bc_ports.proofs.lemmas.HubPortLemmas.{keeps-renewed}
 use Rattle.bc_ports.proofs.hub_port.HubPort.renew.Goals as goal
 
 pub returns-then-is_sent_by-clause-port : goal.returns-then-is_sent_by-clause-port

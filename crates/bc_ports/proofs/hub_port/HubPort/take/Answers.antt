@@ -1,4 +1,4 @@
-use Rattle.bc_ports.proofs.YieldLemmas.{yields-down, yields-up}
+use Rattle.bc_ports.proofs.lemmas.YieldLemmas.{yields-down, yields-up}
 use Rattle.bc_ports.proofs.hub_port.HubPort.take.Goals as goal
 
 pub returns-in-Frame-clause-yields : goal.returns-in-Frame-clause-yields

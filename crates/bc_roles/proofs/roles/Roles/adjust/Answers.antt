@@ -1,12 +1,12 @@
 use Rattle.std.proofs.Common.{◌≡◌, ◌<◌, length, sym, subst, arith}
 use Rattle.std.specs.Prelude.{OnOk}
 use Rattle.std.proofs.lemmas.Grind.{common_steps}
-use Rattle.ptp_profile.specs.Logs.{change_of}
-use Rattle.discipline_seat.specs.Seats.{with_entry}
+use Rattle.ptp_profile.specs.Roles.SeatLogs.{change_of}
+use Rattle.discipline_seat.specs.SeatsView.{with_entry}
 use Rattle.bc_roles.specs.RolesView.{roles_view, RolesRepresent, RolesView}
-use Rattle.bc_roles.proofs.Agreement.{SeatsAgree-answered}
-use Rattle.bc_roles.proofs.Generation.{IsRoles-seats}
-use Rattle.bc_roles.proofs.Representation.{RolesRepresent-answered}
+use Rattle.bc_roles.proofs.lemmas.SeatsAgreeLemmas.{SeatsAgree-answered}
+use Rattle.bc_roles.proofs.lemmas.NextGenerationLemmas.{IsRoles-seats}
+use Rattle.bc_roles.proofs.lemmas.RolesViewLemmas.{RolesRepresent-answered}
 use Rattle.bc_roles.proofs.roles.Roles.adjust.Goals as goal
 
 pub invariant_of-self : goal.invariant_of-self

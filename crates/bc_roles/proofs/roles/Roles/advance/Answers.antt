@@ -2,13 +2,13 @@ use Rattle.std.proofs.Common.{◌≡◌, ◌<◌, ℕ, List, Option, length, tak
 use Rattle.ptp_base.specs.declared.limits.TheConstants.{ENTRIES_MAX}
 use Rattle.ptp_profile.specs.declared.roles.Edge.{Edge}
 use Rattle.ptp_profile.specs.declared.roles.RoleOrder.{RoleOrder}
-use Rattle.ptp_profile.specs.Logs.{with_orders}
-use Rattle.bc_history.specs.RolePhase.{edges_now}
-use Rattle.bc_roles.specs.NextRoles.{orders_to, AreEdges, GoesOn}
+use Rattle.ptp_profile.specs.Roles.SeatLogs.{with_orders}
+use Rattle.bc_history.specs.Phases.RolePhase.{edges_now}
+use Rattle.bc_roles.specs.NextGeneration.{orders_to, AreEdges, GenerationYields}
 use Rattle.bc_roles.specs.OrderRules.{AreAllowed}
 use Rattle.bc_roles.specs.RolesView.{roles_view, IsSameTable, RolesRepresent, RolesView}
-use Rattle.bc_roles.proofs.Generation.{allowed-begun, GoesOn-logs, GoesOn-roles, GoesOn-same}
-use Rattle.bc_roles.proofs.Representation.{edges-same, GoesOn-advanced}
+use Rattle.bc_roles.proofs.lemmas.NextGenerationLemmas.{allowed-begun, GoesOn-logs, GoesOn-roles, GoesOn-same}
+use Rattle.bc_roles.proofs.lemmas.RolesViewLemmas.{edges-same, GoesOn-advanced}
 use Rattle.bc_roles.proofs.roles.Roles.advance.Goals as goal
 
 pub go_on-requires-clause-allowed : goal.go_on-requires-clause-allowed
@@ -32,8 +32,8 @@ invariant_of-self c =
     let news : List (Option Edge) = c.place_edges.new.next.items in
     let are : AreEdges (length v.stamps) news =
     subst (λ (n : ℕ). AreEdges n news) c.self.invariant.places c.place_edges.ensures.forest in
-    let goes : GoesOn v news new c.go_on.result =
-    subst (λ (es : List (Option Edge)). GoesOn v es new c.go_on.result) c.deref-2.ensures.value c.go_on.ensures.goes in
+    let goes : GenerationYields v news new c.go_on.result =
+    subst (λ (es : List (Option Edge)). GenerationYields v es new c.go_on.result) c.deref-2.ensures.value c.go_on.ensures.goes in
     GoesOn-roles v new c.self.inside.next.items news c.self.inside.drafts.items c.draft-count.new.drafts.items
     c.go_on.result goes c.self.invariant are
     c.draft-count.ensures.pairs c.go_on.ensures.agree
@@ -47,8 +47,8 @@ returns-clause-advanced c = λ core roles parent states clocks h.
     let is : news ≡ edges_now core roles = c.place_edges.ensures.edges
     ∙ edges-same core roles (length c.self.inside.next.items) v.generation.edges c.args.parent c.args.states.now c.args.map.now
     (c.self.invariant.edges ∙ sym c.self.invariant.places) before.edges parent states clocks in
-    let goes : GoesOn v news new c.go_on.result =
-    subst (λ (es : List (Option Edge)). GoesOn v es new c.go_on.result) c.deref-2.ensures.value c.go_on.ensures.goes in
+    let goes : GenerationYields v news new c.go_on.result =
+    subst (λ (es : List (Option Edge)). GenerationYields v es new c.go_on.result) c.deref-2.ensures.value c.go_on.ensures.goes in
     GoesOn-advanced core roles v new news c.go_on.result goes before is
 
 pub returns-clause-logs : goal.returns-clause-logs

@@ -2,13 +2,13 @@ use Rattle.std.proofs.Common.{◌≡◌, ◌≢◌, ◌<◌, length, refl, sym, 
 use Rattle.std.proofs.lemmas.List.{get_or_read_under}
 use Rattle.ptp_profile.specs.declared.roles.Stamp.{Stamp}
 use Rattle.ptp_profile.specs.declared.seats.Held.{Held}
-use Rattle.ptp_profile.specs.Logs.{HasOrder}
-use Rattle.ptp_profile.specs.Roles.{no_stamp}
-use Rattle.discipline_seat.specs.Seats.{log_of}
+use Rattle.ptp_profile.specs.Roles.SeatLogs.{HasOrder}
+use Rattle.ptp_profile.specs.Roles.Edges.{no_stamp}
+use Rattle.discipline_seat.specs.SeatsView.{log_of}
 use Rattle.bc_roles.specs.RolesView.{roles_view, RolesRepresent, RolesView}
 use Rattle.bc_roles.specs.Stamps.{stamp_at}
-use Rattle.bc_roles.proofs.Agreement.{held-ordered}
-use Rattle.bc_roles.proofs.Representation.{held-history}
+use Rattle.bc_roles.proofs.lemmas.SeatsAgreeLemmas.{held-ordered}
+use Rattle.bc_roles.proofs.lemmas.RolesViewLemmas.{held-history}
 use Rattle.bc_roles.proofs.roles.Roles.held.Goals as goal
 
 pub returns-clause-history : goal.returns-clause-history

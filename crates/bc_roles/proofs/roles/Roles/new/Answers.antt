@@ -1,9 +1,9 @@
 use Rattle.std.proofs.Common.{◌≡◌, length, replicate, arith}
 use Rattle.std.proofs.lemmas.Grind.{common_steps}
-use Rattle.ptp_profile.specs.Roles.{no_stamp}
+use Rattle.ptp_profile.specs.Roles.Edges.{no_stamp}
 use Rattle.bc_roles.specs.RolesView.{no_roles, roles_view}
-use Rattle.bc_roles.proofs.Generation.{IsRoles-opened}
-use Rattle.bc_roles.proofs.Representation.{RolesRepresent-opening}
+use Rattle.bc_roles.proofs.lemmas.NextGenerationLemmas.{IsRoles-opened}
+use Rattle.bc_roles.proofs.lemmas.RolesViewLemmas.{RolesRepresent-opening}
 use Rattle.bc_roles.proofs.roles.Roles.new.Goals as goal
 
 pub invariant_of-result : goal.invariant_of-result

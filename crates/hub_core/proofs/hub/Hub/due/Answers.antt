@@ -1,14 +1,14 @@
 use Rattle.std.proofs.Common.{◌≡◌, ◌∙◌, ◌-◌, ◌<◌, List, length, refl, ap, subst, arith, Some}
 use Rattle.std.specs.Prelude.{slice_get, option_and_then}
 use Rattle.std.proofs.lemmas.Option.{slice_get_read}
-use Rattle.ptp_profile.specs.Timers.{due_of}
-use Rattle.bc_history.specs.Inputs.{port_at}
-use Rattle.bc_history.specs.State.{HubPort}
-use Rattle.bc_history.specs.Step.{state_of}
+use Rattle.ptp_profile.specs.Port.PortTimers.{due_of}
+use Rattle.bc_history.specs.Phases.Inputs.{port_at}
+use Rattle.bc_history.specs.Phases.HubPort.{HubPort}
+use Rattle.bc_history.specs.Phases.Step.{state_of}
 use Rattle.bc_ports.specs.declared.hub_port.HubPort.{HubPort as KeptPort}
-use Rattle.hub_core.specs.Hubs.{HubState, history_of}
+use Rattle.hub_core.specs.HubView.{HubState, history_of}
 use Rattle.hub_core.specs.declared.hub.Hub.TheInside.{Inside}
-use Rattle.hub_core.proofs.HubLemmas.{due-some}
+use Rattle.hub_core.proofs.lemmas.HubLemmas.{due-some}
 use Rattle.hub_core.proofs.hub.Hub.due.Goals as goal
 
 pub returns : goal.returns

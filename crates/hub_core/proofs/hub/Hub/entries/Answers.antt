@@ -1,5 +1,5 @@
 use Rattle.std.proofs.Common.{subst}
-use Rattle.hub_core.specs.Hubs.{AreLawfulLogs, HubState}
+use Rattle.hub_core.specs.HubView.{AreLawfulLogs, HubState}
 use Rattle.hub_core.proofs.hub.Hub.entries.Goals as goal
 
 pub returns-clause-lawful : goal.returns-clause-lawful

@@ -1,11 +1,11 @@
 use Rattle.std.proofs.Common.{ℕ, ◌∙◌, List, [], ◌∷◌, ◌++◌, refl, sym, ap, subst, arith}
 use Rattle.std.specs.Prelude.{slice_set}
 use Rattle.bc_history.specs.declared.entry.Entry.{Entry}
-use Rattle.bc_history.specs.Next.{IsDue}
-use Rattle.bc_history.specs.Step.{state_of}
-use Rattle.hub_core.specs.Hubs.{HubState, entry_by, history_of, newest_seen, reading_at, with_entry}
+use Rattle.bc_history.specs.Run.NextInputs.{IsDue}
+use Rattle.bc_history.specs.Phases.Step.{state_of}
+use Rattle.hub_core.specs.HubView.{HubState, entry_by, history_of, newest_seen, reading_at, with_entry}
 use Rattle.hub_core.specs.declared.hub.Hub.TheInside.{Inside}
-use Rattle.hub_core.proofs.HubLemmas.{HasTakenOne, IsRoomier, drafted, entry-taken, gener-roomier, hub-next, hub-same, hub-taken, logs-roomier, machine-roomier, own-due, reading-taken}
+use Rattle.hub_core.proofs.lemmas.HubLemmas.{HasTakenOne, IsRoomier, drafted, entry-taken, gener-roomier, hub-next, hub-same, hub-taken, logs-roomier, machine-roomier, own-due, reading-taken}
 use Rattle.hub_core.proofs.hub.Hub.event.Goals as goal
 
 pub invariant_of-self-in_err-push : goal.invariant_of-self-in_err-push

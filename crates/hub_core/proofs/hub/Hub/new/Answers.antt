@@ -1,13 +1,13 @@
 use Rattle.std.proofs.Common.{refl, subst, sym}
-use Rattle.bc_history.specs.Opening.{opening}
-use Rattle.bc_history.specs.ScenarioRules.{IsScenario}
+use Rattle.bc_history.specs.Phases.OpeningState.{opening}
+use Rattle.bc_history.specs.Scenario.ScenarioRules.{IsScenario}
 use Rattle.bc_history.specs.declared.scenario.Scenario.{Scenario}
-use Rattle.hub_core.specs.Machine.{IsMachine}
-use Rattle.hub_core.proofs.HubLemmas.{hub-opened}
+use Rattle.hub_core.specs.HubParts.{PartsRepresent}
+use Rattle.hub_core.proofs.lemmas.HubLemmas.{hub-opened}
 use Rattle.hub_core.proofs.hub.Hub.new.Goals as goal
 
 pub invariant_of-result : goal.invariant_of-result
 invariant_of-result c =
     let S : Scenario → Type 0 = λ s. IsScenario s in
-    let M : Scenario → Type 0 = λ s. IsMachine s c.in_ok-new.field-0 (opening s) in
+    let M : Scenario → Type 0 = λ s. PartsRepresent s c.in_ok-new.field-0 (opening s) in
     hub-opened _ c.new-2.ensures (subst S (sym c.of.ensures) c.rules.ensures) (subst M (sym c.of.ensures) c.in_ok-new.ensures.machine) c.in_ok-new.ensures.gener refl

@@ -1,0 +1,11 @@
+pub mod HubPortLemmas
+pub mod RepresentationLemmas
+pub mod FrameLemmas
+pub mod EventLemmas
+pub mod PortCodeLemmas
+pub mod DecisionLemmas
+pub mod OpenPortLemmas
+pub mod YieldLemmas
+pub mod ListLemmas
+pub mod MoveLemmas
+pub mod BoundaryClockLemmas

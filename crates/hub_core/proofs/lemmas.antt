@@ -1,0 +1,4 @@
+pub mod PortEntryLemmas
+pub mod EntryLemmas
+pub mod HubLemmas
+pub mod EffectRoomLemmas

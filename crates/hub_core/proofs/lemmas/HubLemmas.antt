@@ -1,0 +1,222 @@
+-- A hub before and after an event.
+use Rattle.std.proofs.Common.{◌≡◌, ℕ, zero, suc, ◌+◌, ◌-◌, ◌<◌, ◌≤◌, List, [], ◌∷◌, ◌++◌, length, reverse, refl, sym, ap, subst, ◌∙◌, arith, Option, Some, length-append}
+use Rattle.std.specs.Prelude.{slice_get, slice_set, is_some, option_and_then}
+use Rattle.std.proofs.lemmas.List.{length-reverse}
+use Rattle.discipline_seat.proofs.lemmas.ReversalLemmas.{reverse_push}
+use Rattle.ptp_base.specs.declared.limits.TheConstants.{ENTRIES_MAX}
+use Rattle.ptp_profile.specs.declared.seats.LogEntry.{LogEntry}
+use Rattle.ptp_profile.specs.Roles.SeatLogs.{with_orders}
+use Rattle.ptp_profile.specs.Port.PortTimers.{due_of}
+use Rattle.bc_history.specs.declared.entry.Entry.{Entry}
+use Rattle.bc_history.specs.declared.entry.Input.{Input}
+use Rattle.bc_history.specs.declared.entry.Seen.{Seen}
+use Rattle.bc_history.specs.declared.port_input.PortHappening.{PortHappening}
+use Rattle.bc_history.specs.declared.port_input.PortHappening.TheVariants.{Frame as Frame_arrives, Timed as Timer_fires, Down as Goes_down, Up as Comes_up, Report as Reports}
+use Rattle.bc_history.specs.declared.port_input.PortInput.{PortInput}
+use Rattle.bc_history.specs.declared.scenario.Scenario.{Scenario}
+use Rattle.bc_history.specs.Phases.EntryEffects.{entry_after}
+use Rattle.bc_history.specs.Run.History.{Follows, IsHistory}
+use Rattle.bc_history.specs.Phases.Inputs.{history_input, input_with, is_read, port_at, port_input}
+use Rattle.bc_history.specs.Run.NextInputs.{IsDue}
+use Rattle.bc_history.specs.Phases.OpeningState.{opening}
+use Rattle.bc_history.specs.Scenario.ScenarioRules.{IsScenario}
+use Rattle.bc_history.specs.Phases.State.{State}
+use Rattle.bc_history.specs.Phases.HubPort.{HubPort}
+use Rattle.bc_history.specs.Phases.Step.{queries_after, state_of, step}
+use Rattle.bc_ports.specs.declared.hub_port.HubPort.{HubPort as KeptPort}
+use Rattle.bc_ports.proofs.lemmas.RepresentationLemmas.{PortsRepresent-some}
+use Rattle.bc_roles.specs.RolesView.{RolesView}
+use Rattle.hub_core.specs.HubView.{HubState, IsHub, entry_by, history_of, newest_seen, reading_at, with_entry}
+use Rattle.hub_core.specs.HubParts.{PartsYield, PartsRepresent}
+use Rattle.hub_core.specs.PortReading.{input_seen}
+use Rattle.hub_core.specs.declared.hub.Hub.TheInside.{Inside}
+use Rattle.hub_core.specs.declared.hub_parts.HubParts.{HubParts}
+use Rattle.hub_core.proofs.lemmas.PortEntryLemmas.{due-port, history-again, placed-at, seen-some}
+
+-- ---- before the first entry
+
+pub hub-opened : (i : Inside) → i.entries ≡ [] → IsScenario i.scenario.value → PartsRepresent i.scenario.value i.machine (opening i.scenario.value) → i.machine.roles.generation.gener ≡ 0 → i.asked ≡ 0 → IsHub i
+unfolding state_of
+hub-opened i none rules machine gener asked =
+    let s = i.scenario.value in
+    let H : List Entry → Type 0 = λ es. IsHistory s es in
+    let M : List Entry → Type 0 = λ es. PartsRepresent s i.machine (state_of s es) in
+    let Q : List Entry → Type 0 = λ es. i.asked ≡ (state_of s es).queries in
+    let empty : [] ≡ history_of i = ap (λ (es : List Entry). reverse es) (sym none) in
+    record {
+      rules = rules;
+      history = subst H empty (record { few = omega arith; continues = tt });
+      machine = subst M empty machine;
+      gener = omega (arith, gener);
+      asked = subst Q empty asked;
+    }
+
+-- ---- rooms
+
+-- more places for orders change nothing else
+pub record IsRoomier (old new : RolesView) : Type 0 where
+  pub spare : ℕ
+  pub same : new ≡ record old { seats = record old.seats { spare = spare } }
+
+abbrev with_roles : HubParts → RolesView → HubParts
+with_roles m r = record { port_clocks = m.port_clocks; core = m.core; roles = r; states = m.states }
+
+pub machine-roomier : (s : Scenario) (m : HubParts) (h : State) (r : RolesView) → PartsRepresent s m h → IsRoomier m.roles r → PartsRepresent s (with_roles m r) h
+machine-roomier s m h r was more =
+    let P : RolesView → Type 0 = λ x. PartsRepresent s (with_roles m x) h in
+    subst P (sym more.same) (record {
+      clocks = was.clocks;
+      core = was.core;
+      sound = was.sound;
+      ports = was.ports;
+      roles = record { gener = was.roles.gener; edges = was.roles.edges; stamps = was.roles.stamps; lawful = was.roles.lawful };
+      rows = was.rows;
+      openings = was.openings;
+      stamps = was.stamps;
+      places = was.places;
+    })
+
+pub gener-roomier : (old new : RolesView) → IsRoomier old new → new.generation.gener ≡ old.generation.gener
+gener-roomier old new more = ap (λ (r : RolesView). r.generation.gener) more.same
+
+pub logs-roomier : (old new : RolesView) → IsRoomier old new → new.seats.logs ≡ old.seats.logs
+logs-roomier old new more = ap (λ (r : RolesView). r.seats.logs) more.same
+
+-- the same history with another machine that stands for it
+pub hub-same : (i j : Inside) → IsHub i → j.scenario.value ≡ i.scenario.value → j.entries ≡ i.entries → j.asked ≡ i.asked
+    → PartsRepresent i.scenario.value j.machine (state_of i.scenario.value (history_of i)) → j.machine.roles.generation.gener ≡ i.machine.roles.generation.gener → IsHub j
+hub-same i j was scenario entries asked machine gener =
+    let history : history_of i ≡ history_of j = ap (λ (es : List Entry). reverse es) (sym entries) in
+    let long = ap (λ (es : List Entry). length es) entries in
+    let S : Scenario → Type 0 = λ s. IsScenario s in
+    let H : Scenario → Type 0 = λ s. IsHistory s (history_of i) in
+    let H' : List Entry → Type 0 = λ es. IsHistory j.scenario.value es in
+    let M : Scenario → Type 0 = λ s. PartsRepresent s j.machine (state_of s (history_of i)) in
+    let M' : List Entry → Type 0 = λ es. PartsRepresent j.scenario.value j.machine (state_of j.scenario.value es) in
+    let Q : Scenario → Type 0 = λ s. j.asked ≡ (state_of s (history_of i)).queries in
+    let Q' : List Entry → Type 0 = λ es. j.asked ≡ (state_of j.scenario.value es).queries in
+    record {
+      rules = subst S (sym scenario) was.rules;
+      history = subst H' history (subst H (sym scenario) was.history);
+      machine = subst M' history (subst M (sym scenario) machine);
+      gener = omega (arith, was.gener, gener, long);
+      asked = subst Q' history (subst Q (sym scenario) (asked ∙ was.asked));
+    }
+
+-- ---- one entry more
+
+seen-after : (s : Scenario) (before : List Entry) (input : Input) (seen : Option Seen) → (entry_after s before input seen).seen ≡ seen
+unfolding entry_after
+seen-after s before input seen = refl
+
+follows-after : (s : Scenario) (before : List Entry) (input : Input) (seen : Option Seen) → IsDue s (state_of s before) input → is_some seen ≡ is_read input → Follows s before (entry_after s before input seen)
+unfolding entry_after
+follows-after s before input seen due read = record { due = due; read = read; made = refl }
+
+queries-with : (number tick : ℕ) (what : PortHappening) (n : ℕ) → queries_after (input_with number tick what) n ≡ n
+queries-with number tick (Frame_arrives octets) n = refl
+queries-with number tick (Timer_fires timer) n = refl
+queries-with number tick Goes_down n = refl
+queries-with number tick Comes_up n = refl
+queries-with number tick (Reports gener action outcome) n = refl
+
+queries-same : (s : Scenario) (before : List Entry) (p : PortInput) (seen : Option Seen) → (state_of s (entry_after s before (history_input p) seen ∷ before)).queries ≡ (state_of s before).queries
+unfolding state_of step entry_after
+queries-same s before p seen = queries-with p.number p.tick p.what (state_of s before).queries
+
+-- an entry in the place of the draft at the end
+pub drafted : (es : List Entry) (draft e : Entry) → slice_set (es ++ draft ∷ []) (length es) e ≡ es ++ e ∷ []
+drafted [] draft e = refl
+drafted (x ∷ es) draft e = ap (λ (xs : List Entry). x ∷ xs) (drafted es draft e)
+
+-- the input as one of a port is due as it is one of the history
+pub own-due : (s : Scenario) (h : State) (input : Input) (p : PortInput) → port_input input ≡ Some p → IsDue s h input → IsDue s h (history_input p)
+own-due s h input p own due = subst (λ (x : Input). IsDue s h x) (sym (history-again input p own)) due
+
+-- a hub that served one more input
+pub record HasTakenOne (i j : Inside) (input : Input) (p : PortInput) (logs : List (List LogEntry)) (entry : Entry) : Type 0 where
+  pub scenario : j.scenario.value ≡ i.scenario.value
+  pub own : port_input input ≡ Some p
+  pub served : PartsYield i.scenario.value (history_of i) logs p j.machine entry
+  pub entries : j.entries ≡ i.entries ++ entry ∷ []
+  pub asked : j.asked ≡ i.asked
+  pub gener : j.machine.roles.generation.gener ≤ i.machine.roles.generation.gener + 1
+  pub logs_before : logs ≡ i.machine.roles.seats.logs
+  pub logs_after : j.machine.roles.seats.logs ≡ with_orders logs entry.effects.orders
+
+history-one : (i j : Inside) (input : Input) (p : PortInput) (logs : List (List LogEntry)) (entry : Entry) → HasTakenOne i j input p logs entry → history_of j ≡ entry ∷ history_of i
+history-one i j input p logs entry is = ap (λ (es : List Entry). reverse es) is.entries ∙ reverse_push i.entries entry
+
+pub hub-next : (i j : Inside) (input : Input) (p : PortInput) (logs : List (List LogEntry)) (entry : Entry) → IsHub i → length i.entries < ENTRIES_MAX
+    → IsDue i.scenario.value (state_of i.scenario.value (history_of i)) input → HasTakenOne i j input p logs entry → IsHub j
+hub-next i j input p logs entry was few due is =
+    let s = i.scenario.value in
+    let before = history_of i in
+    let h = state_of s before in
+    let reading = input_seen s logs (history_input p) in
+    let own = own-due s h input p is.own due in
+    let at = due-port s h p own in
+    let read = seen-some s logs p at.port (placed-at s before p.number at.port at.there) in
+    let history : history_of j ≡ entry ∷ before = history-one i j input p logs entry is in
+    let move : (P : Scenario → List Entry → Type 0) → P s (entry ∷ before) → P j.scenario.value (history_of j) =
+    λ P x. subst (λ (y : Scenario). P y (history_of j)) (sym is.scenario) (subst (λ (es : List Entry). P s es) (sym history) x) in
+    let long = length-reverse i.entries in
+    let more = ap (λ (es : List Entry). length es) is.entries ∙ length-append i.entries (entry ∷ []) in
+    let follows = subst (λ (e : Entry). Follows s before e) (sym is.served.entry_is) (follows-after s before (history_input p) reading own read) in
+    let asked = ap (λ (e : Entry). (state_of s (e ∷ before)).queries) is.served.entry_is ∙ queries-same s before p reading in
+    record {
+      rules = subst (λ (x : Scenario). IsScenario x) (sym is.scenario) was.rules;
+      history = move (λ x es. IsHistory x es) (record { few = omega (arith, few, long); continues = (follows, was.history.continues) });
+      machine = move (λ x es. PartsRepresent x j.machine (state_of x es)) is.served.machine;
+      gener = omega (arith, is.gener, was.gener, more);
+      asked = move (λ x es. j.asked ≡ (state_of x es).queries) (is.asked ∙ (was.asked ∙ sym asked));
+    }
+
+-- ---- what contracts see of it
+
+abbrev pub seen_of : Inside → HubState
+seen_of i = record { scenario = i.scenario.value; entries = history_of i; logs = i.machine.roles.seats.logs }
+
+same-hub : (s s' : Scenario) (es es' : List Entry) (ls ls' : List (List LogEntry)) → s ≡ s' → es ≡ es' → ls ≡ ls'
+    → (let a : HubState = record { scenario = s; entries = es; logs = ls } in a) ≡ (let b : HubState = record { scenario = s'; entries = es'; logs = ls' } in b)
+same-hub s s' es es' ls ls' a b d = rw (a, b, d) refl
+
+newest-one : (i j : Inside) (input : Input) (p : PortInput) (logs : List (List LogEntry)) (entry : Entry) → HasTakenOne i j input p logs entry → newest_seen (history_of j) ≡ input_seen i.scenario.value logs (history_input p)
+newest-one i j input p logs entry is =
+    ap newest_seen (history-one i j input p logs entry is) ∙ ap (λ (e : Entry). e.seen) is.served.entry_is
+    ∙ seen-after i.scenario.value (history_of i) (history_input p) (input_seen i.scenario.value logs (history_input p))
+
+-- the newest entry has the reading that comes with the input
+pub reading-taken : (i j : Inside) (input : Input) (p : PortInput) (logs : List (List LogEntry)) (entry : Entry) → HasTakenOne i j input p logs entry → newest_seen (history_of j) ≡ reading_at (seen_of i) input
+reading-taken i j input p logs entry is =
+    newest-one i j input p logs entry is ∙ ap (λ (x : Input). input_seen i.scenario.value logs x) (history-again input p is.own)
+    ∙ ap (λ (ls : List (List LogEntry)). input_seen i.scenario.value ls input) is.logs_before
+
+-- the entry is the one that the input makes with that reading
+pub entry-taken : (i j : Inside) (input : Input) (p : PortInput) (logs : List (List LogEntry)) (entry : Entry) → HasTakenOne i j input p logs entry → entry ≡ entry_by (seen_of i) input (newest_seen (history_of j))
+entry-taken i j input p logs entry is =
+    let s = i.scenario.value in
+    let before = history_of i in
+    is.served.entry_is ∙ ap (λ (x : Option Seen). entry_after s before (history_input p) x) (sym (newest-one i j input p logs entry is))
+    ∙ ap (λ (x : Input). entry_after s before x (newest_seen (history_of j))) (history-again input p is.own)
+
+pub hub-taken : (i j : Inside) (input : Input) (p : PortInput) (logs : List (List LogEntry)) (entry : Entry) → HasTakenOne i j input p logs entry
+    → seen_of j ≡ with_entry (seen_of i) (entry_by (seen_of i) input (newest_seen (history_of j)))
+hub-taken i j input p logs entry is =
+    let by = entry-taken i j input p logs entry is in
+    let history = history-one i j input p logs entry is ∙ ap (λ (e : Entry). e ∷ history_of i) by in
+    let logs_are = is.logs_after ∙ (ap (λ (ls : List (List LogEntry)). with_orders ls entry.effects.orders) is.logs_before ∙ ap (λ (e : Entry). with_orders i.machine.roles.seats.logs e.effects.orders) by) in
+    same-hub _ _ _ _ _ _ is.scenario history logs_are
+
+-- ---- what is due
+
+port-index : (hs : List HubPort) (number : ℕ) → 1 ≤ number → slice_get hs (number - 1) ≡ port_at hs number
+port-index hs zero some = absurd (omega (arith, some))
+port-index hs (suc i) some = let index : suc i - 1 ≡ i = omega arith in ap (λ (k : ℕ). slice_get hs k) index
+
+-- the timer that a port of the machine has is that of the history's port
+pub due-some : (s : Scenario) (m : HubParts) (h : State) (number : ℕ) (q : KeptPort) → PartsRepresent s m h → 1 ≤ number → slice_get m.core.ports.items (number - 1) ≡ Some q
+    → due_of q.engine.timers ≡ option_and_then (λ (g : HubPort). due_of g.port.timers) (port_at h.core.ports number)
+due-some s m h number q is some found =
+    let stands = PortsRepresent-some s.options.delay_filter_length m.core.moment m.core.ports.items h.core.ports (number - 1) q is.core.core.ports found in
+    ap due_of stands.2.engine.timers ∙ sym (ap (option_and_then (λ (g : HubPort). due_of g.port.timers)) (sym (port-index h.core.ports number some) ∙ stands.1))

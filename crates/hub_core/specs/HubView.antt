@@ -1,0 +1,77 @@
+-- A hub: its scenario, its history and the clocks' logs; and what an event adds to it.
+use Rattle.std.specs.Prelude.{◌≡◌, ◌≤◌, true, List, [], ◌∷◌, length, reverse, is_some, Option, None}
+use Rattle.ptp_profile.specs.declared.seats.LogEntry.{LogEntry}
+use Rattle.ptp_profile.specs.Roles.SeatLogs.{AreLawful, no_logs, with_orders}
+use Rattle.bc_history.specs.declared.entry.Entry.{Entry}
+use Rattle.bc_history.specs.declared.entry.Input.{Input}
+use Rattle.bc_history.specs.declared.entry.Input.TheVariants.{Down}
+use Rattle.bc_history.specs.declared.entry.Seen.{Seen}
+use Rattle.bc_history.specs.declared.scenario.Scenario.{Scenario}
+use Rattle.bc_history.specs.Phases.EntryEffects.{entry_after}
+use Rattle.bc_history.specs.Run.History.{IsHistory}
+use Rattle.bc_history.specs.Phases.Inputs.{port_of}
+use Rattle.bc_history.specs.Scenario.ScenarioRules.{IsScenario}
+use Rattle.bc_history.specs.Phases.Step.{state_of}
+use Rattle.hub_core.specs.HubParts.{PartsRepresent}
+use Rattle.hub_core.specs.PortReading.{input_seen}
+use Rattle.hub_core.specs.declared.hub.Hub.TheInside.{Inside}
+
+-- entries and logs have the newest first; the logs are by rising clock
+pub record HubState : Type 0 where
+  pub scenario : Scenario
+  pub entries : List Entry
+  pub logs : List (List LogEntry)
+
+-- before the first entry
+abbrev pub hub_at_opening : Scenario → HubState
+hub_at_opening s = record { scenario = s; entries = []; logs = no_logs s.clocks }
+
+-- the input is a port's own
+abbrev pub IsPortInput : Input → Type 0
+IsPortInput input = is_some (port_of input) ≡ true
+
+-- the entry that an input makes with a reading
+abbrev pub entry_by : HubState → Input → Option Seen → Entry
+entry_by h input seen = entry_after h.scenario h.entries input seen
+
+-- the hub after an entry: it is the newest, and its orders are the newest of the logs
+abbrev pub with_entry : HubState → Entry → HubState
+with_entry h e = record h { entries = e ∷ h.entries; logs = with_orders h.logs e.effects.orders }
+
+-- the reading of the newest entry, if there is one
+abbrev pub newest_seen : List Entry → Option Seen
+newest_seen [] = None
+newest_seen (e ∷ before) = e.seen
+
+-- the reading that comes with an input: that of its port's clock, after all entries of the clock's
+-- log
+abbrev pub reading_at : HubState → Input → Option Seen
+reading_at h input = input_seen h.scenario h.logs input
+
+-- the orders of each clock's log are the history's, all and in order, and each change bears the
+-- stamp in force before it
+abbrev pub AreLawfulLogs : HubState → Type 0
+AreLawfulLogs h = AreLawful (state_of h.scenario h.entries).roles.orders h.logs
+
+-- what stands in the place of an entry while it is made
+abbrev pub draft_entry : Entry
+draft_entry = record {
+  input = Down 0 0;
+  moment = 0;
+  seen = None;
+  effects =
+      record
+      { fate = None; states = []; parent = None; orders = []; measure = None; frames = []; told = None; asked = None; answers = [] };
+}
+
+-- the history, the newest entry first: the code keeps the oldest first
+abbrev pub history_of : Inside → List Entry
+history_of i = reverse i.entries
+
+-- what always holds of a hub
+pub record IsHub (i : Inside) : Type 0 where
+  pub rules : IsScenario i.scenario.value
+  pub history : IsHistory i.scenario.value (history_of i)
+  pub machine : PartsRepresent i.scenario.value i.machine (state_of i.scenario.value (history_of i))
+  pub gener : i.machine.roles.generation.gener ≤ length i.entries
+  pub asked : i.asked ≡ (state_of i.scenario.value (history_of i)).queries
