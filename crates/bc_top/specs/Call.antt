@@ -4,12 +4,12 @@ use Rattle.text_io.specs.declared.reason.Reason.{Reason}
 use Rattle.text_io.specs.declared.reason.Reason.TheVariants.{Unbuilt}
 use Rattle.bc_history.specs.declared.scenario.Scenario.{Scenario}
 use Rattle.bc_history.specs.declared.entry.Run.{Run}
-use Rattle.bc_history.specs.ScenarioText.{Stands, IsFirstFault}
-use Rattle.bc_history.specs.World.{IsWorld, IsEnd, Events}
-use Rattle.bc_history.specs.Text.{text_of}
-use Rattle.bc_top.specs.Reading.{Reads}
-use Rattle.bc_top.specs.Writing.{Writes}
-use Rattle.bc_top.specs.Built.{IsBuilt, IsUnbuilt}
+use Rattle.bc_history.specs.Scenario.LineFaults.{Stands, IsFirstFault}
+use Rattle.bc_history.specs.Run.World.{IsWorld, IsEnd, Events}
+use Rattle.bc_history.specs.Run.Transcript.{text_of}
+use Rattle.bc_top.specs.ReadToEnd.{Reads}
+use Rattle.bc_top.specs.WriteAll.{Writes}
+use Rattle.bc_top.specs.Stage.SupportedScenarios.{IsSupported, IsUnsupported}
 use Rattle.bc_top.specs.declared.outcome.NoTranscript.{NoTranscript}
 use Rattle.bc_top.specs.declared.outcome.NoTranscript.TheVariants.{Refused, Events as Too_many, NoMemory}
 
@@ -23,32 +23,32 @@ pub record Call : Type 0 where
 abbrev pub call_of : List (List ℕ) → Reads → Writes → Call
 call_of words reads writes = record { words = words; reads = reads; writes = writes }
 
--- the text stands for a scenario that is built, and out is the text of its run
+-- the text stands for a scenario that is supported, and out is the text of its run
 pub record IsTranscriptOf (text out : List ℕ) : Type 0 where
   pub scenario : Scenario
   pub run : Run
   pub stands : Stands text scenario
-  pub built : IsBuilt scenario
+  pub supported : IsSupported scenario
   pub world : IsWorld scenario run
   pub spelled : out ≡ text_of run
 
--- the text stands for a scenario that is not built; the line is the text as a whole
-pub record IsOfUnbuilt (text : List ℕ) (line : ℕ) (reason : Reason) : Type 0 where
+-- the text stands for a scenario that is not supported; the line is the text as a whole
+pub record IsOfUnsupported (text : List ℕ) (line : ℕ) (reason : Reason) : Type 0 where
   pub scenario : Scenario
   pub stands : Stands text scenario
-  pub unbuilt : IsUnbuilt scenario
+  pub unsupported : IsUnsupported scenario
   pub whole : line ≡ 0
   pub cause : reason ≡ Unbuilt
 
--- a text is refused by its first fault, or as it is not built
+-- a text is refused by its first fault, or as it is not supported
 abbrev pub IsRefusal : List ℕ → ℕ → Reason → Type 0
-IsRefusal text line reason = IsFirstFault text line reason ⊎ IsOfUnbuilt text line reason
+IsRefusal text line reason = IsFirstFault text line reason ⊎ IsOfUnsupported text line reason
 
--- the text stands for a scenario that is built, and that ends at one event too many
+-- the text stands for a scenario that is supported, and that ends at one event too many
 pub record IsOverfull (text : List ℕ) : Type 0 where
   pub scenario : Scenario
   pub stands : Stands text scenario
-  pub built : IsBuilt scenario
+  pub supported : IsSupported scenario
   pub events : IsEnd scenario Events
 
 -- why a text has no transcript; want of memory has no cause that is told

@@ -1,5 +1,5 @@
 ghost use Rattle.std.specs.Prelude.{◌≤◌, length};
-ghost use Rattle.bc_top.specs.Cursor.{IsNextOf};
+ghost use Rattle.bc_top.specs.RecordCursor.{IsNextOf};
 
 use bc_history::Record;
 

@@ -1,5 +1,6 @@
-ghost use Rattle.std.specs.Prelude.{◌≡◌, ◌<◌, ◌≤◌, Some, MatchOption};
-ghost use Rattle.bc_top.specs.Ticks.{IsFirstTick, IsNoneTick};
+ghost use Rattle.std.specs.Prelude.{◌≡◌, ℕ, MatchOption};
+ghost use Rattle.ptp_base.specs.Least.{lesser};
+ghost use Rattle.bc_top.specs.DueLoop.{IsFirstTick, IsNoneTick};
 
 /// The index of the first of the least ticks within the duration.
 pub fn first_due(ticks: &[Option<u64>], duration: u64) -> Option<usize>
@@ -21,7 +22,7 @@ pub fn first_due(ticks: &[Option<u64>], duration: u64) -> Option<usize>
 
 /// The earlier of two, and the former one of equals.
 pub fn earlier(best: Option<(usize, u64)>, i: usize, tick: u64) -> Option<(usize, u64)>
-    ensures { MatchOption best (result ≡ Some (i, tick)) (λ b. (tick < b.1 → result ≡ Some (i, tick)) × (b.1 ≤ tick → result ≡ best)) }
+    ensures { result ≡ lesser (λ (at : ℕ × ℕ). at.1) best (i, tick) }
 {
     match best {
         Some((_, least)) if least <= tick => best,

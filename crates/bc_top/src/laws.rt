@@ -1,60 +1,19 @@
-ghost use Rattle.std.specs.Prelude.{◌≡◌, ◌<◌, ◌≤◌, ◌⊎◌, ℕ, ◌+◌, List, [], ◌∷◌, length, replicate, Option, None, Some, slice_get, slice_set};
-ghost use Rattle.ptp_base.specs.declared.limits.TheConstants.{ENTRIES_MAX};
-ghost use Rattle.ptp_profile.specs.declared.port.Timer.{Timer};
-ghost use Rattle.ptp_profile.specs.Timers.{due_of};
+ghost use Rattle.std.specs.Prelude.{◌≡◌, ℕ, ◌+◌, List, [], ◌∷◌, Option, Some, slice_get, slice_set};
+ghost use Rattle.ptp_profile.specs.declared.port_event.Timer.{Timer};
+ghost use Rattle.ptp_profile.specs.Port.PortTimers.{due_of};
 ghost use Rattle.bc_history.specs.declared.entry.Entry.{Entry};
 ghost use Rattle.bc_history.specs.declared.entry.Input.{Input};
 ghost use Rattle.bc_history.specs.declared.entry.Input.TheVariants.{Timed};
 ghost use Rattle.bc_history.specs.declared.scenario.Record.{Record};
 ghost use Rattle.bc_history.specs.declared.scenario.Scenario.{Scenario};
-ghost use Rattle.bc_history.specs.State.{HubPort};
-ghost use Rattle.bc_history.specs.Inputs.{port_of};
-ghost use Rattle.bc_history.specs.Opening.{follower_count, open_follower};
-ghost use Rattle.bc_history.specs.Step.{state_of};
-ghost use Rattle.bc_history.specs.Next.{input_of, record_or_timer, records_of, next_input};
-ghost use Rattle.bc_history.specs.World.{port_reading, Event, Ended, Finished, Events, IsEnd, IsWorld, next_status, stepped};
-ghost use Rattle.hub_core.specs.Hubs.{HubState, opened, reading_at, with_entry};
-ghost use Rattle.bc_top.specs.Built.{IsBuilt, IsUnbuilt};
-ghost use Rattle.bc_top.specs.Cursor.{AreCursors, IsCursor, IsNextOf, taken_by};
-ghost use Rattle.bc_top.specs.Loop.{AreOfPorts, IsDueAt, IsFirstDue, IsNoneDue, IsOnTheWay, IsQuiet, loop_run, next_entry, ports_after, ports_of, ticks_of, waiting_world};
-ghost use Rattle.bc_top.specs.Ticks.{IsFirstTick, IsNoneTick};
-
-/// After inputs of ports alone the followers are as they began, and no query came.
-pub fn others_stay_as_they_began()
-    ensures followers { (s : Scenario) (entries : List Entry) → AreOfPorts entries
-        → (state_of s entries).followers ≡ replicate (follower_count s) open_follower }
-    ensures queries { (s : Scenario) (entries : List Entry) → AreOfPorts entries
-        → (state_of s entries).queries ≡ 0 }
-{}
-
-/// One turn of a quiet scenario, where all ports wait and only ports had inputs: the first due port
-/// takes its next input, and where none is due, the run is finished.
-pub fn turns_are_of_the_first_due()
-    ensures event { (hub : HubState) (n k : ℕ) (input : Input) → IsQuiet hub.scenario
-        → AreOfPorts hub.entries → IsFirstDue hub.scenario (ports_of hub) k input
-        → (next_entry hub input).effects.measure ≡ None
-        → next_status hub.scenario n (waiting_world hub) None ≡ stepped (waiting_world hub)
-        (Event (waiting_world (with_entry hub (next_entry hub input)))) }
-    ensures finished { (hub : HubState) (n : ℕ) → IsQuiet hub.scenario → AreOfPorts hub.entries
-        → IsNoneDue hub.scenario (ports_of hub)
-        → next_status hub.scenario n (waiting_world hub) None ≡ Ended (Finished (loop_run hub)) }
-{}
-
-/// A loop that lets the first due port take its next input, as long as one is due, gives the World of a
-/// quiet scenario: it begins where the World does, each event with no measure keeps to it, and it ends
-/// as the World does, with the run, or with an event too many.
-pub fn the_loop_is_the_world()
-    ensures begins { (s : Scenario) → IsOnTheWay (opened s) }
-    ensures goes_on { (hub : HubState) (k : ℕ) (input : Input) (e : Entry) → IsQuiet hub.scenario
-        → IsOnTheWay hub → IsFirstDue hub.scenario (ports_of hub) k input
-        → e ≡ next_entry hub input → e.effects.measure ≡ None → length hub.entries < ENTRIES_MAX
-        → IsOnTheWay (with_entry hub e) }
-    ensures finishes { (hub : HubState) → IsQuiet hub.scenario → IsOnTheWay hub
-        → IsNoneDue hub.scenario (ports_of hub) → IsWorld hub.scenario (loop_run hub) }
-    ensures overflows { (hub : HubState) (k : ℕ) (input : Input) → IsQuiet hub.scenario
-        → IsOnTheWay hub → IsFirstDue hub.scenario (ports_of hub) k input
-        → ENTRIES_MAX ≤ length hub.entries → IsEnd hub.scenario Events }
-{}
+ghost use Rattle.bc_history.specs.Phases.HubPort.{HubPort};
+ghost use Rattle.bc_history.specs.Phases.Inputs.{port_of};
+ghost use Rattle.bc_history.specs.Run.NextInputs.{input_of, record_or_timer, records_of, next_input};
+ghost use Rattle.bc_history.specs.Run.World.{port_reading};
+ghost use Rattle.hub_core.specs.HubView.{HubState, reading_at};
+ghost use Rattle.bc_top.specs.RecordCursor.{AreCursors, IsCursor, IsNextOf, taken_by};
+ghost use Rattle.bc_top.specs.Stage.QuietRuns.{waiting_world};
+ghost use Rattle.bc_top.specs.DueLoop.{IsDueAt, IsFirstDue, IsNoneDue, ports_after, ports_of, ticks_of, IsFirstTick, IsNoneTick};
 
 /// The first of the least ticks of the ports' next inputs is that of the port that is due first.
 pub fn first_ticks_are_due_first()
@@ -69,9 +28,11 @@ pub fn first_ticks_are_due_first()
         → ticks ≡ ticks_of s ports → IsNoneTick ticks s.options.duration → IsNoneDue s ports }
 {}
 
-/// A cursor stands at its port's next record, from the first one on, and stays so when the port takes it.
+/// A cursor stands at its port's next record, from the first one on, and stays so when the port
+/// takes it.
 pub fn cursors_stand_at_the_next()
-    ensures opening { (records : List Record) (p c : ℕ) → IsNextOf records p 0 c → IsCursor records p 0 c }
+    ensures opening { (records : List Record) (p c : ℕ)
+        → IsNextOf records p 0 c → IsCursor records p 0 c }
     ensures next { (records : List Record) (p taken c next : ℕ) (r : Record)
         → IsCursor records p taken c → slice_get records c ≡ Some r
         → IsNextOf records p (c + 1) next → IsCursor records p (taken + 1) next }
@@ -79,9 +40,9 @@ pub fn cursors_stand_at_the_next()
         → slice_get (records_of s p) taken ≡ slice_get s.records c }
 {}
 
-/// What is due at a port is of that port, its reading is one of the clock that the scenario has for the
-/// port; and its next input is the record at its cursor or its timer, which cursors that are moved by
-/// records alone tell.
+/// What is due at a port is of that port, its reading is one of the clock that the scenario has for
+/// the port; and its next input is the record at its cursor or its timer, which cursors that are
+/// moved by records alone tell.
 pub fn ports_go_by_their_cursors()
     ensures number { (s : Scenario) (entries : List Entry) (k : ℕ) (input : Input)
         → IsDueAt s (ports_after s entries) k input → port_of input ≡ Some (k + 1) }
@@ -103,10 +64,4 @@ pub fn ports_go_by_their_cursors()
         → slice_get cursors k ≡ Some c → slice_get s.records c ≡ Some r
         → e.input ≡ input_of (k + 1) r.tick r.what → IsNextOf s.records (k + 1) (c + 1) next
         → AreCursors s (e ∷ entries) (slice_set cursors k next) }
-{}
-
-/// A scenario is built, or it has one of the causes for which it is not, and never both.
-pub fn a_scenario_is_built_or_not()
-    ensures either { (s : Scenario) → IsBuilt s ⊎ IsUnbuilt s }
-    ensures apart { (s : Scenario) → IsBuilt s → ¬ (IsUnbuilt s) }
 {}

@@ -1,15 +1,13 @@
 ghost use Rattle.std.specs.Prelude.{◌≡◌, ℕ, ◌+◌, ◌<◌, ◌≤◌, length, map, IfOk, MatchOption, slice_get};
 ghost use Rattle.std.specs.Option.{option_map};
 ghost use Rattle.ptp_base.specs.declared.limits.TheConstants.{PORTS_MAX};
-ghost use Rattle.bc_history.specs.Inputs.{tick_of};
-ghost use Rattle.bc_history.specs.Next.{input_of, record_or_timer};
-ghost use Rattle.bc_top.specs.Going.{IsGoing, IsDueFirst, IsFirst, IsPassed};
-ghost use Rattle.bc_top.specs.Loop.{IsNoneDue, ports_after, ticks_of};
-ghost use Rattle.bc_top.specs.Sooner.{sooner_timer};
+ghost use Rattle.bc_history.specs.Phases.Inputs.{tick_of};
+ghost use Rattle.bc_history.specs.Run.NextInputs.{input_of, record_or_timer};
+ghost use Rattle.bc_top.specs.DueLoop.{LoopRepresents, IsDueFirst, IsFirst, IsPassed, IsNoneDue, ports_after, ticks_of, sooner_timer};
 
 use crate::cursor::next_of;
 use crate::due::first_due;
-use crate::parts::{duration_of, records_of};
+use crate::scenario_parts::{duration_of, records_of};
 use bc_history::{Happening, Input, Record, Scenario};
 use hub_core::Hub;
 use ptp_base::NoMemory;
@@ -35,7 +33,8 @@ pub fn sooner_timer(
 
 /// The tick of what a port has next: the record at its cursor, or its timer.
 fn next_tick(records: &[Record], cursor: usize, timer: Option<(u64, Timer)>) -> Option<u64>
-    ensures { (p : ℕ) → result ≡ option_map tick_of (record_or_timer p (slice_get records.now cursor) timer) }
+    ensures { (p : ℕ)
+        → result ≡ option_map tick_of (record_or_timer p (slice_get records.now cursor) timer) }
 {
     if let Some((tick, _)) = sooner_timer(records, cursor, timer) {
         return Some(tick);
@@ -54,8 +53,9 @@ fn next_ticks(
     cursors: &[usize],
 ) -> Result<Vec<Option<u64>>, NoMemory>
     requires few { length s.now.ports ≤ PORTS_MAX }
-    requires going { IsGoing s.now hub.now cursors.now }
-    ensures { IfOk result (λ ticks. ticks.items ≡ ticks_of s.now (ports_after s.now hub.now.entries)) }
+    requires going { LoopRepresents s.now hub.now cursors.now }
+    ensures { IfOk result (λ ticks.
+        ticks.items ≡ ticks_of s.now (ports_after s.now hub.now.entries)) }
 {
     let records = records_of(s);
     let mut ticks = Vec::new(alloc);
@@ -74,8 +74,9 @@ pub fn next_due(
     cursors: &[usize],
 ) -> Result<Option<usize>, NoMemory>
     requires few { length s.now.ports ≤ PORTS_MAX }
-    requires going { IsGoing s.now hub.now cursors.now }
-    ensures { IfOk result (λ due. MatchOption due (IsNoneDue s.now (ports_after s.now hub.now.entries)) (IsDueFirst s.now hub.now)) }
+    requires going { LoopRepresents s.now hub.now cursors.now }
+    ensures { IfOk result (λ due. MatchOption due
+        (IsNoneDue s.now (ports_after s.now hub.now.entries)) (IsDueFirst s.now hub.now)) }
 {
     let ticks = next_ticks(alloc, s, hub, cursors)?;
     Ok(first_due(&ticks, duration_of(s)))
@@ -106,7 +107,7 @@ pub fn next_input(
     k: usize,
 ) -> Result<(Input, usize), NoMemory>
     requires few { length s.now.ports ≤ PORTS_MAX }
-    requires going { IsGoing s.now hub.now cursors.now }
+    requires going { LoopRepresents s.now hub.now cursors.now }
     requires due { IsDueFirst s.now hub.now k }
     ensures first { IfOk result (λ next. IsFirst s.now hub.now next.0) }
     ensures passed { IfOk result (λ next. IsPassed s.now hub.now cursors.now k next.0 next.1) }

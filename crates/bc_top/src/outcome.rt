@@ -1,5 +1,5 @@
 ghost use Rattle.std.specs.Prelude.{◌≡◌};
-ghost use Rattle.bc_top.specs.Status.{status_of, end_without};
+ghost use Rattle.bc_top.specs.ExitStatus.{status_of, end_without};
 
 use text_io::Reason;
 
@@ -50,7 +50,7 @@ impl End {
 /// Why a text has no transcript.
 #[derive(Clone, Copy, Debug, PartialEq, Eq)]
 pub enum NoTranscript {
-    /// The text is no scenario, or line 0, its scenario is not built.
+    /// The text is no scenario, or line 0, its scenario is not supported.
     Refused { line: u32, reason: Reason },
     /// `ENTRIES_MAX` entries were held and another event was due.
     Events,

@@ -1,5 +1,5 @@
 ghost use Rattle.std.specs.Prelude.{◌≡◌, ℕ, ◌+◌, ◌-◌, ◌*◌, ◌^◌, ◌<◌, ◌≤◌, List, [], ◌++◌, length, Some, None, IfOk, IfErr};
-ghost use Rattle.bc_top.specs.Reading.{IsReadWhole, IsReadError, reads_of};
+ghost use Rattle.bc_top.specs.ReadToEnd.{IsReadWhole, IsReadError, reads_of};
 
 use ptp_base::TEXT_MAX;
 use std::alloc::Global;
@@ -21,9 +21,11 @@ const PIECE: usize = 4096;
 
 /// All that is left in the source. No octet behind the first one that is too many is read.
 pub fn read_to_end<S: Source>(alloc: Global, source: &mut S) -> Result<Vec<u8>, ReadError>
-    ensures whole { IfOk result (λ text. IsReadWhole (reads_of (S.left source.old) (S.left source.new)
+    ensures whole { IfOk result (λ text. IsReadWhole
+        (reads_of (S.left source.old) (S.left source.new)
         (S.faults source.old) (S.faults source.new)) text.items) }
-    ensures error { IfErr result (IsReadError (reads_of (S.left source.old) (S.left source.new)
+    ensures error { IfErr result (IsReadError
+        (reads_of (S.left source.old) (S.left source.new)
         (S.faults source.old) (S.faults source.new))) }
 {
     let mut text = Vec::new(alloc);

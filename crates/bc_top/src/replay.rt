@@ -1,15 +1,15 @@
 ghost use Rattle.std.specs.Prelude.{◌≡◌, ℕ, ◌+◌, ◌-◌, ◌<◌, ◌≤◌, [], length, IfOk, IfErr, OnOk};
 ghost use Rattle.ptp_base.specs.declared.limits.TheConstants.{ENTRIES_MAX, PORTS_MAX};
-ghost use Rattle.bc_history.specs.World.{IsWorld};
-ghost use Rattle.bc_top.specs.Built.{IsBuilt};
-ghost use Rattle.bc_top.specs.Cursor.{AreCursors};
-ghost use Rattle.bc_top.specs.Going.{IsDueFirst, IsFirst, IsGoing, IsUnderWay, HasServed};
-ghost use Rattle.bc_top.specs.Lawful.{HasLawfulLogs};
-ghost use Rattle.bc_top.specs.Replaying.{IsReplayError};
+ghost use Rattle.bc_history.specs.Run.World.{IsWorld};
+ghost use Rattle.bc_top.specs.Stage.SupportedScenarios.{IsSupported};
+ghost use Rattle.bc_top.specs.RecordCursor.{AreCursors};
+ghost use Rattle.bc_top.specs.DueLoop.{IsDueFirst, IsFirst, LoopRepresents, HubRepresents, TurnYields};
+ghost use Rattle.bc_top.specs.LawfulLogs.{HasLawfulLogs};
+ghost use Rattle.bc_top.specs.ReplayError.{IsReplayError};
 
 use crate::cursor::next_of;
 use crate::next::{next_due, next_input};
-use crate::parts::{port_count, records_of};
+use crate::scenario_parts::{port_count, records_of};
 use bc_history::{Input, Run, Scenario};
 use hub_core::{Hub, HubError};
 use ptp_base::NoMemory;
@@ -37,7 +37,7 @@ impl From<NoMemory> for ReplayError {
 
 impl From<HubError> for ReplayError {
     ghost use Rattle.std.specs.Prelude.{◌≡◌};
-    ghost use Rattle.bc_top.specs.Replaying.{by_hub};
+    ghost use Rattle.bc_top.specs.ReplayError.{by_hub};
 
     ghost from_gives = { λ h e. e ≡ by_hub h };
 
@@ -65,10 +65,10 @@ fn first_cursors(alloc: Global, s: &Scenario) -> Result<Vec<usize>, NoMemory>
 
 /// The hub takes an input that is due first.
 fn serve(hub: &mut Hub, input: Input) -> Result<(), ReplayError>
-    requires built { IsBuilt hub.old.scenario }
-    requires under_way { IsUnderWay hub.old.scenario hub.old }
+    requires supported { IsSupported hub.old.scenario }
+    requires under_way { HubRepresents hub.old.scenario hub.old }
     requires first { IsFirst hub.old.scenario hub.old input }
-    ensures served { OnOk result (HasServed hub.old.scenario hub.old hub.new input) }
+    ensures served { OnOk result (TurnYields hub.old.scenario hub.old hub.new input) }
     ensures few { OnOk result (length hub.old.entries < ENTRIES_MAX) }
     ensures error { IfErr result (IsReplayError hub.old.scenario) }
 {
@@ -87,12 +87,13 @@ fn take_turn(
     cursors: &mut Vec<usize>,
     k: usize,
 ) -> Result<(), ReplayError>
-    requires built { IsBuilt s.now }
+    requires supported { IsSupported s.now }
     requires few { length s.now.ports ≤ PORTS_MAX }
-    requires going { IsGoing s.now hub.old cursors.old.items }
+    requires going { LoopRepresents s.now hub.old cursors.old.items }
     requires due { IsDueFirst s.now hub.old k }
-    ensures going { OnOk result (IsGoing s.now hub.new cursors.new.items) }
-    ensures more { OnOk result (ENTRIES_MAX - length hub.new.entries < ENTRIES_MAX - length hub.old.entries) }
+    ensures going { OnOk result (LoopRepresents s.now hub.new cursors.new.items) }
+    ensures more { OnOk result
+        (ENTRIES_MAX - length hub.new.entries < ENTRIES_MAX - length hub.old.entries) }
     ensures error { IfErr result (IsReplayError s.now) }
 {
     let (input, cursor) = next_input(alloc, s, hub, cursors.as_slice(), k)?;
@@ -101,11 +102,11 @@ fn take_turn(
     Ok(())
 }
 
-/// The run of a scenario that is built. Its logs are lawful: each has the history's orders for its
-/// clock, all and in order, and each change bears the stamp in force before it. At each turn it
+/// The run of a scenario that is supported. Its logs are lawful: each has the history's orders for
+/// its clock, all and in order, and each change bears the stamp in force before it. At each turn it
 /// looks once at each port, and copies nothing of the history.
 pub fn replay(alloc: Global, s: &Scenario) -> Result<Run, ReplayError>
-    requires built { IsBuilt s.now }
+    requires supported { IsSupported s.now }
     ensures run { IfOk result (λ run. IsWorld s.now run) }
     ensures lawful { IfOk result (λ run. HasLawfulLogs s.now run) }
     ensures error { IfErr result (IsReplayError s.now) }

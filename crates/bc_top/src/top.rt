@@ -1,18 +1,17 @@
 ghost use Rattle.std.specs.Prelude.{◌≡◌, ℕ, ◌≤◌, ◌++◌, List, length, map, IfOk, IfErr, string_bytes};
-ghost use Rattle.bc_history.specs.ScenarioText.{Stands};
-ghost use Rattle.bc_top.specs.Built.{IsBuilt};
+ghost use Rattle.bc_history.specs.Scenario.LineFaults.{Stands};
+ghost use Rattle.bc_top.specs.Stage.SupportedScenarios.{IsSupported};
 ghost use Rattle.ptp_base.specs.declared.limits.TheConstants.{TEXT_MAX};
-ghost use Rattle.bc_top.specs.Reading.{reads_of};
-ghost use Rattle.bc_top.specs.Writing.{writes_of};
+ghost use Rattle.bc_top.specs.ReadToEnd.{reads_of};
+ghost use Rattle.bc_top.specs.WriteAll.{writes_of};
 ghost use Rattle.bc_top.specs.Call.{IsTranscriptOf, IsWithout, call_of};
-ghost use Rattle.bc_top.specs.Causes.{IsCaused};
-ghost use Rattle.bc_top.specs.Complete.{IsComplete};
+ghost use Rattle.bc_top.specs.EndCauses.{IsCaused};
+ghost use Rattle.bc_top.specs.EndCompleteness.{IsComplete};
 
-use crate::built::is_built;
 use crate::outcome::{End, NoTranscript};
 use crate::read::{ReadError, read_to_end};
 use crate::replay::{ReplayError, replay};
-use crate::transcript::transcript;
+use crate::stage::supported::is_supported;
 use crate::words::is_replay;
 use crate::write::write_all;
 use bc_config::{Refusal, scenario};
@@ -20,12 +19,13 @@ use bc_history::Scenario;
 use ptp_base::Octets;
 use std::alloc::Global;
 use text_io::{Reason, Sink, Source};
+use transcript::transcript;
 
-/// The scenario that the text stands for, where it is built.
-fn built_scenario(alloc: Global, text: &[u8]) -> Result<Scenario, NoTranscript>
+/// The scenario that the text stands for, where it is supported.
+fn supported_scenario(alloc: Global, text: &[u8]) -> Result<Scenario, NoTranscript>
     requires short { length text.now ≤ TEXT_MAX }
     ensures stands { IfOk result (λ s. Stands text.now s) }
-    ensures built { IfOk result IsBuilt }
+    ensures supported { IfOk result IsSupported }
     ensures without { IfErr result (IsWithout text.now) }
 {
     let s = match scenario(alloc, text) {
@@ -33,7 +33,7 @@ fn built_scenario(alloc: Global, text: &[u8]) -> Result<Scenario, NoTranscript>
         Err(Refusal::Line { line, reason }) => return Err(NoTranscript::Refused { line, reason }),
         Err(Refusal::NoMemory) => return Err(NoTranscript::NoMemory),
     };
-    if is_built(&s) {
+    if is_supported(&s) {
         return Ok(s);
     }
     Err(NoTranscript::Refused {
@@ -48,7 +48,7 @@ fn transcript_of(alloc: Global, text: &[u8]) -> Result<Octets, NoTranscript>
     ensures transcript { IfOk result (λ out. IsTranscriptOf text.now out) }
     ensures without { IfErr result (IsWithout text.now) }
 {
-    let s = built_scenario(alloc, text)?;
+    let s = supported_scenario(alloc, text)?;
     let run = match replay(alloc, &s) {
         Ok(run) => run,
         Err(ReplayError::NoMemory) => return Err(NoTranscript::NoMemory),
@@ -63,8 +63,10 @@ fn transcript_of(alloc: Global, text: &[u8]) -> Result<Octets, NoTranscript>
 /// Does what the words ask for.
 fn serve<S: Source, K: Sink>(alloc: Global, words: &[String], source: &mut S, sink: &mut K) -> End
     ensures { IsCaused (call_of (map string_bytes words.now)
-        (reads_of (S.left source.old) (S.left source.new) (S.faults source.old) (S.faults source.new))
-        (writes_of (K.written sink.old) (K.written sink.new) (K.faults sink.old) (K.faults sink.new))) result }
+        (reads_of (S.left source.old) (S.left source.new)
+        (S.faults source.old) (S.faults source.new))
+        (writes_of (K.written sink.old) (K.written sink.new)
+        (K.faults sink.old) (K.faults sink.new))) result }
 {
     if !is_replay(words) {
         return End::Usage;
@@ -94,11 +96,15 @@ pub fn offline<S: Source, K: Sink>(
     sink: &mut K,
 ) -> End
     ensures caused { IsCaused (call_of (map string_bytes words.now)
-        (reads_of (S.left source.old) (S.left source.new) (S.faults source.old) (S.faults source.new))
-        (writes_of (K.written sink.old) (K.written sink.new) (K.faults sink.old) (K.faults sink.new))) result }
+        (reads_of (S.left source.old) (S.left source.new)
+        (S.faults source.old) (S.faults source.new))
+        (writes_of (K.written sink.old) (K.written sink.new)
+        (K.faults sink.old) (K.faults sink.new))) result }
     ensures complete { IsComplete (call_of (map string_bytes words.now)
-        (reads_of (S.left source.old) (S.left source.new) (S.faults source.old) (S.faults source.new))
-        (writes_of (K.written sink.old) (K.written sink.new) (K.faults sink.old) (K.faults sink.new))) result }
+        (reads_of (S.left source.old) (S.left source.new)
+        (S.faults source.old) (S.faults source.new))
+        (writes_of (K.written sink.old) (K.written sink.new)
+        (K.faults sink.old) (K.faults sink.new))) result }
 {
     serve(alloc, words, source, sink)
 }

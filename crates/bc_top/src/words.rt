@@ -1,5 +1,5 @@
 ghost use Rattle.std.specs.Prelude.{◌≡◌, ◌↔◌, List, [], ◌∷◌, map, IsTrue, codes, string_bytes};
-ghost use Rattle.bc_top.specs.Words.{IsReplay};
+ghost use Rattle.bc_top.specs.CommandWords.{IsReplay};
 
 /// Whether the words are the one word `replay`.
 pub fn is_replay(words: &[String]) -> bool

@@ -1,5 +1,5 @@
 ghost use Rattle.std.specs.Prelude.{◌≡◌, ℕ, ◌+◌, ◌-◌, ◌^◌, ◌<◌, ◌≤◌, ◌++◌, List, length, take, OnOk, OnErr};
-ghost use Rattle.bc_top.specs.Writing.{IsWritten, IsWriteFault, writes_of};
+ghost use Rattle.bc_top.specs.WriteAll.{IsWritten, IsWriteFault, writes_of};
 
 use text_io::{Failed, Sink};
 

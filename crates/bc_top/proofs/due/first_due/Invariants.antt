@@ -1,5 +1,5 @@
-use Rattle.bc_top.specs.Ticks.{IsTickAt}
-use Rattle.bc_top.proofs.Best.{BestBelow}
+use Rattle.bc_top.specs.DueLoop.{IsTickAt}
+use Rattle.bc_top.proofs.lemmas.DueLoopLemmas.{BestBelow}
 use Rattle.bc_top.proofs.due.first_due.Given as goal
 
 abbrev pub invariant-loop-i : goal.invariant-loop-i

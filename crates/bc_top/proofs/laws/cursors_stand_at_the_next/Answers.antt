@@ -1,4 +1,4 @@
-use Rattle.bc_top.proofs.Cursors.{Cursor-opening, Cursor-next, Cursor-record}
+use Rattle.bc_top.proofs.lemmas.RecordCursorLemmas.{Cursor-opening, Cursor-next, Cursor-record}
 use Rattle.bc_top.proofs.laws.cursors_stand_at_the_next.Goals as goal
 
 pub returns : goal.returns

@@ -1,4 +1,4 @@
-use Rattle.bc_top.proofs.AtPorts.{port-due, reading-port, port_input-cursor, Cursors-opening, Cursors-timer, Cursors-record}
+use Rattle.bc_top.proofs.lemmas.PortCursorLemmas.{port-due, reading-port, port_input-cursor, Cursors-opening, Cursors-timer, Cursors-record}
 use Rattle.bc_top.proofs.laws.ports_go_by_their_cursors.Goals as goal
 
 pub returns : goal.returns

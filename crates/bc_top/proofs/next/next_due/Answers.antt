@@ -1,4 +1,4 @@
-use Rattle.bc_top.proofs.Turning.{due-from_ticks}
+use Rattle.bc_top.proofs.lemmas.TurnLemmas.{due-from_ticks}
 use Rattle.bc_top.proofs.next.next_due.Goals as goal
 
 pub returns : goal.returns

@@ -1,5 +1,5 @@
 use Rattle.std.proofs.Common.{rules, ◌<◌, get_or, length, arith}
-use Rattle.bc_top.proofs.Turning.{due_at_cursor, due_few, turn-timer, turn-passed_timer, turn-within, turn-record, turn-passed_record}
+use Rattle.bc_top.proofs.lemmas.TurnLemmas.{due_at_cursor, due_few, turn-timer, turn-passed_timer, turn-within, turn-record, turn-passed_record}
 use Rattle.bc_top.proofs.next.next_input.Goals as goal
 
 pub overflow_cast-port : goal.overflow_cast-port

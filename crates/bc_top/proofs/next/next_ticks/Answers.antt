@@ -2,9 +2,9 @@ use Rattle.std.proofs.Common.{◌<◌, ◌∙◌, ap, List, length, get_or, slic
 use Rattle.std.specs.Prelude.{option_map}
 use Rattle.std.proofs.lemmas.Option.{slice_get-get_or}
 use Rattle.bc_history.specs.declared.scenario.Record.{Record}
-use Rattle.bc_history.specs.Inputs.{tick_of}
-use Rattle.bc_history.specs.Next.{record_or_timer}
-use Rattle.bc_top.proofs.Turning.{ticks-more, ticks-all}
+use Rattle.bc_history.specs.Phases.Inputs.{tick_of}
+use Rattle.bc_history.specs.Run.NextInputs.{record_or_timer}
+use Rattle.bc_top.proofs.lemmas.TurnLemmas.{ticks-more, ticks-all}
 use Rattle.bc_top.proofs.next.next_ticks.Goals as goal
 
 pub loop-i-preserved : goal.loop-i-preserved

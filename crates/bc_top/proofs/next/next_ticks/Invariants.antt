@@ -1,5 +1,5 @@
 use Rattle.std.proofs.Common.{◌≡◌, take}
-use Rattle.bc_top.specs.Loop.{ports_after, ticks_of}
+use Rattle.bc_top.specs.DueLoop.{ports_after, ticks_of}
 use Rattle.bc_top.proofs.next.next_ticks.Given as goal
 
 abbrev pub invariant-loop-i : goal.invariant-loop-i

@@ -1,6 +1,6 @@
 use Rattle.std.proofs.Common.{rules}
-use Rattle.bc_top.proofs.AtPorts.{Cursors-opening}
-use Rattle.bc_top.proofs.Turning.{cursors-more}
+use Rattle.bc_top.proofs.lemmas.PortCursorLemmas.{Cursors-opening}
+use Rattle.bc_top.proofs.lemmas.TurnLemmas.{cursors-more}
 use Rattle.bc_top.proofs.replay.first_cursors.Goals as goal
 
 pub returns-clause-next : goal.returns-clause-next

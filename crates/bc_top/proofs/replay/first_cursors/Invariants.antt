@@ -1,5 +1,5 @@
 use Rattle.std.proofs.Common.{◌≡◌, ℕ, ◌+◌, Some, length, slice_get}
-use Rattle.bc_top.specs.Cursor.{IsNextOf}
+use Rattle.bc_top.specs.RecordCursor.{IsNextOf}
 use Rattle.bc_top.proofs.replay.first_cursors.Given as goal
 
 abbrev pub invariant-loop-i : goal.invariant-loop-i

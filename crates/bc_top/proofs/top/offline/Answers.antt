@@ -1,4 +1,4 @@
-use Rattle.bc_top.proofs.Exact.{complete}
+use Rattle.bc_top.proofs.lemmas.EndCompletenessLemmas.{complete}
 use Rattle.bc_top.proofs.top.offline.Goals as goal
 
 pub returns-clause-complete : goal.returns-clause-complete

@@ -1,0 +1,35 @@
+//! The parts of a call of the program, its words and its source, and what tests ask of a scenario.
+ghost use Rattle.std.specs.Prelude.{◌≡◌, length};
+
+use bc_history::Scenario;
+use bc_top::End;
+use std::alloc::Global;
+use std::test::Fail;
+use text_io::{MemSource, Reason};
+
+/// How a call ends at a scenario that is not served.
+pub const REFUSED: End = End::Refused {
+    line: 0,
+    reason: Reason::Unbuilt,
+};
+
+/// A source with this text.
+pub fn source(alloc: Global, text: &[u8]) -> Result<MemSource, Fail> {
+    Ok(MemSource::new(Vec::from_slice(alloc, text)?))
+}
+
+/// The words of a line.
+pub fn words(alloc: Global, line: &str) -> Result<Vec<String>, Fail> {
+    let mut words = Vec::new(alloc);
+    for word in line.split_ascii_whitespace() {
+        words.push(String::from_str(alloc, word)?)?;
+    }
+    Ok(words)
+}
+
+/// The number of the ports of a scenario.
+pub fn port_count(s: &Scenario) -> usize
+    ensures { result ≡ length s.now.ports }
+{
+    s.ports.len()
+}

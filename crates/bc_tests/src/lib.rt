@@ -1,0 +1,11 @@
+//! The tests that cross crates: whole calls of the program, and a hub as it begins.
+#![tactic(auto)]
+
+#[cfg(test)]
+mod call;
+#[cfg(test)]
+mod end_tests;
+#[cfg(test)]
+mod replay_tests;
+#[cfg(test)]
+mod worked_tests;

@@ -1,0 +1,101 @@
+-- Where no fault rose and the source tells what is left, the causes leave one end, and want of memory.
+use Rattle.std.proofs.Common.{◌≡◌, ℕ, ◌≤◌, List, ◌++◌, length, Option, Some, None, refl, sym, ◌∙◌, ap, subst, inl, inr, arith, length-append}
+use Rattle.std.proofs.lemmas.List.{append-nil}
+use Rattle.std.specs.Io.KnownBytes.{Consumes, IsAtEnd}
+use Rattle.text_io.specs.declared.reason.Reason.{Reason}
+use Rattle.text_io.specs.declared.reason.Reason.TheVariants.{Unbuilt}
+use Rattle.ptp_base.specs.declared.limits.TheConstants.{TEXT_MAX}
+use Rattle.bc_top.specs.ReadToEnd.{Reads, AreRead, IsReadWhole}
+use Rattle.bc_top.specs.Call.{Call, IsTranscriptOf, IsRefusal, IsOverfull}
+use Rattle.bc_top.specs.EndCauses.{IsCaused}
+use Rattle.bc_top.specs.EndCompleteness.{IsEndAt, IsComplete}
+use Rattle.bc_top.specs.declared.outcome.End.{End}
+use Rattle.bc_top.specs.declared.outcome.End.TheVariants.{Done, Usage, Refused, ReadFault, WriteFault, Events, NoMemory, TooLong}
+use Rattle.bc_top.proofs.lemmas.CallLemmas.{stands-faultless, one_line, one_reason, supported_apart, ends_apart}
+
+all_was_read : (after : Option (List ℕ)) (text octets : List ℕ) → Consumes (Some text) after octets → IsAtEnd after → octets ≡ text
+all_was_read None text octets given end = absurd given
+all_was_read (Some rest) text octets given end = sym (given ∙ (ap (λ l. octets ++ l) end ∙ append-nil octets))
+
+text_is : (r : Reads) (text octets : List ℕ) → r.left ≡ Some text → IsReadWhole r octets → octets ≡ text
+text_is r text octets told read = all_was_read r.left_after text octets (rw told at read.read.given) read.end
+
+within_text : (after : Option (List ℕ)) (text octets : List ℕ) → Consumes (Some text) after octets → length octets ≤ length text
+within_text None text octets given = absurd given
+within_text (Some rest) text octets given = rw (given, length-append octets rest) (omega arith)
+
+octets_within : (r : Reads) (text octets : List ℕ) → r.left ≡ Some text → AreRead r octets → length octets ≤ length text
+octets_within r text octets told read = within_text r.left_after text octets (rw told at read.given)
+
+-- ---- the end at a text that was read whole
+
+done-at : (text out : List ℕ) → length text ≤ TEXT_MAX → IsTranscriptOf text out → IsEndAt text Done
+done-at text out short made = record {
+  done = λ few s run stands supported world. inl refl;
+  events = λ few s stands supported events. absurd (ends_apart text made.scenario s made.run made.stands stands made.world events);
+  unsupported = λ few s stands unsupported. absurd (supported_apart text made.scenario s made.stands stands made.supported unsupported);
+  refused = λ few line reason fault. absurd (stands-faultless text made.scenario line reason made.stands fault);
+  too_long = λ long. absurd (omega (arith, long, short));
+}
+
+same_refusal : (line other : ℕ) (reason further : Reason) → line ≡ other → reason ≡ further → Refused line reason ≡ Refused other further
+same_refusal line other reason further lines reasons = cc
+
+refused-at : (text : List ℕ) (line : ℕ) (reason : Reason) → length text ≤ TEXT_MAX → IsRefusal text line reason → IsEndAt text (Refused line reason)
+refused-at text line reason short (inl fault) = record {
+  done = λ few s run stands supported world. absurd (stands-faultless text s line reason stands fault);
+  events = λ few s stands supported events. absurd (stands-faultless text s line reason stands fault);
+  unsupported = λ few s stands unsupported. absurd (stands-faultless text s line reason stands fault);
+  refused = λ few other further first. inl (same_refusal line other reason further (one_line text line other reason further fault first) (one_reason text line other reason further fault first));
+  too_long = λ long. absurd (omega (arith, long, short));
+}
+refused-at text line reason short (inr of) = record {
+  done = λ few s run stands supported world. absurd (supported_apart text s of.scenario stands of.stands supported of.unsupported);
+  events = λ few s stands supported events. absurd (supported_apart text s of.scenario stands of.stands supported of.unsupported);
+  unsupported = λ few s stands unsupported. inl (same_refusal line 0 reason Unbuilt of.whole of.cause);
+  refused = λ few other further first. absurd (stands-faultless text of.scenario other further of.stands first);
+  too_long = λ long. absurd (omega (arith, long, short));
+}
+
+events-at : (text : List ℕ) → length text ≤ TEXT_MAX → IsOverfull text → IsEndAt text Events
+events-at text short over = record {
+  done = λ few s run stands supported world. absurd (ends_apart text s over.scenario run stands over.stands world over.events);
+  events = λ few s stands supported events. inl refl;
+  unsupported = λ few s stands unsupported. absurd (supported_apart text over.scenario s over.stands stands over.supported unsupported);
+  refused = λ few line reason fault. absurd (stands-faultless text over.scenario line reason over.stands fault);
+  too_long = λ long. absurd (omega (arith, long, short));
+}
+
+memory-at : (text : List ℕ) → IsEndAt text NoMemory
+memory-at text = record {
+  done = λ few s run stands supported world. inr refl;
+  events = λ few s stands supported events. inr refl;
+  unsupported = λ few s stands unsupported. inr refl;
+  refused = λ few line reason fault. inr refl;
+  too_long = λ long. inr refl;
+}
+
+too_long-at : (text : List ℕ) → (length text ≤ TEXT_MAX → ⊥) → IsEndAt text TooLong
+too_long-at text long = record {
+  done = λ few s run stands supported world. absurd (long few);
+  events = λ few s stands supported events. absurd (long few);
+  unsupported = λ few s stands unsupported. absurd (long few);
+  refused = λ few line reason fault. absurd (long few);
+  too_long = λ far. inl refl;
+}
+
+-- what was read whole is the text
+at_text : (r : Reads) (text octets : List ℕ) (end : End) → r.left ≡ Some text → IsReadWhole r octets → IsEndAt octets end → IsEndAt text end
+at_text r text octets end told read at = subst (λ t. IsEndAt t end) (text_is r text octets told read) at
+
+pub complete : (c : Call) (end : End) → IsCaused c end → IsComplete c end
+complete c Done cause = λ words no_read no_write text told. at_text c.reads text cause.text Done told cause.read (done-at cause.text cause.out cause.read.short cause.transcript)
+complete c Usage cause = λ words no_read no_write text told. absurd (cause.other words)
+complete c (Refused line reason) cause = λ words no_read no_write text told. at_text c.reads text cause.text (Refused line reason) told cause.read (refused-at cause.text line reason cause.read.short cause.refusal)
+complete c ReadFault cause = λ words no_read no_write text told. absurd (no_read cause.failed.counted.0)
+complete c WriteFault cause = λ words no_read no_write text told. absurd (no_write cause.failed.counted.0)
+complete c Events cause = λ words no_read no_write text told. at_text c.reads text cause.text Events told cause.read (events-at cause.text cause.read.short cause.overfull)
+complete c NoMemory cause = λ words no_read no_write text told. memory-at text
+complete c TooLong cause = λ words no_read no_write text told.
+    let within = octets_within c.reads text cause.far.octets told cause.far.read in
+    too_long-at text (λ short. omega (arith, short, within, cause.far.long))

@@ -1,6 +1,0 @@
-use Rattle.std.proofs.Common.{◌≡◌, ◌++◌, take}
-use Rattle.bc_history.specs.Text.{answers_text}
-use Rattle.bc_top.proofs.transcript.answers.push_answers.Given as goal
-
-abbrev pub invariant-loop-answer : goal.invariant-loop-answer
-invariant-loop-answer l = l.out ≡ l.initial.out ++ answers_text (take l.answer-index l.answers)

@@ -1,6 +1,0 @@
-use Rattle.std.proofs.Common.{◌≡◌, ◌++◌, take}
-use Rattle.bc_history.specs.Text.{moves_text}
-use Rattle.bc_top.proofs.transcript.effects.push_moves.Given as goal
-
-abbrev pub invariant-loop-moved : goal.invariant-loop-moved
-invariant-loop-moved l = l.out ≡ l.initial.out ++ moves_text (take l.moved-index l.moves)

@@ -1,6 +1,0 @@
-use Rattle.std.proofs.Common.{◌≡◌, ◌++◌, take}
-use Rattle.bc_history.specs.Text.{orders_text}
-use Rattle.bc_top.proofs.transcript.effects.push_orders.Given as goal
-
-abbrev pub invariant-loop-order : goal.invariant-loop-order
-invariant-loop-order l = l.out ≡ l.initial.out ++ orders_text (take l.order-index l.orders)

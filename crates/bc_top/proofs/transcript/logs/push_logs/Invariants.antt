@@ -1,6 +1,0 @@
-use Rattle.std.proofs.Common.{◌≡◌, ◌++◌, take}
-use Rattle.bc_history.specs.Text.{logs_text}
-use Rattle.bc_top.proofs.transcript.logs.push_logs.Given as goal
-
-abbrev pub invariant-loop-log : goal.invariant-loop-log
-invariant-loop-log l = l.out ≡ l.initial.out ++ logs_text (take l.log-index l.logs)

@@ -1,5 +1,0 @@
-use Rattle.bc_top.proofs.Texts.{appended}
-use Rattle.bc_top.proofs.transcript.writer.Writer.write_fmt.Goals as goal
-
-pub returns-in-Ok : goal.returns-in-Ok
-returns-in-Ok g c = appended (g.D.Display.output c.args.format) c.args.self.now c.write.new.self c.in-Ok.ensures.writes

@@ -1,0 +1,79 @@
+-- What a call ends with, and why.
+use Rattle.std.specs.Prelude.{ℕ, List}
+use Rattle.text_io.specs.declared.reason.Reason.{Reason}
+use Rattle.bc_top.specs.CommandWords.{IsReplay}
+use Rattle.bc_top.specs.ReadToEnd.{IsUnread, IsReadPart, IsReadWhole, IsReadTooFar, IsReadFault}
+use Rattle.bc_top.specs.WriteAll.{IsUnwritten, IsWritten, IsWriteFault}
+use Rattle.bc_top.specs.Call.{Call, IsTranscriptOf, IsRefusal, IsOverfull}
+use Rattle.bc_top.specs.declared.outcome.End.{End}
+use Rattle.bc_top.specs.declared.outcome.End.TheVariants.{Done, Usage, Refused, ReadFault, WriteFault, Events, NoMemory, TooLong}
+
+-- the source was read to its end, and the transcript of what was read was written
+pub record IsDone (c : Call) : Type 0 where
+  pub replay : IsReplay c.words
+  pub text : List ℕ
+  pub read : IsReadWhole c.reads text
+  pub out : List ℕ
+  pub transcript : IsTranscriptOf text out
+  pub written : IsWritten c.writes out
+
+-- the words are none that the program takes, and nothing was read or written
+pub record IsUsage (c : Call) : Type 0 where
+  pub other : ¬ (IsReplay c.words)
+  pub unread : IsUnread c.reads
+  pub unwritten : IsUnwritten c.writes
+
+-- the source was read to its end, and what was read is refused: by its first fault, or as a
+-- scenario that is not supported
+pub record IsRefused (c : Call) (line : ℕ) (reason : Reason) : Type 0 where
+  pub replay : IsReplay c.words
+  pub text : List ℕ
+  pub read : IsReadWhole c.reads text
+  pub refusal : IsRefusal text line reason
+  pub unwritten : IsUnwritten c.writes
+
+-- a read failed
+pub record IsFaultOfReading (c : Call) : Type 0 where
+  pub replay : IsReplay c.words
+  pub failed : IsReadFault c.reads
+  pub unwritten : IsUnwritten c.writes
+
+-- a write failed, after a part of the transcript
+pub record IsFaultOfWriting (c : Call) : Type 0 where
+  pub replay : IsReplay c.words
+  pub text : List ℕ
+  pub read : IsReadWhole c.reads text
+  pub out : List ℕ
+  pub transcript : IsTranscriptOf text out
+  pub failed : IsWriteFault c.writes out
+
+-- the source was read to its end, and the scenario of what was read ends at one event too many
+pub record IsTooMany (c : Call) : Type 0 where
+  pub replay : IsReplay c.words
+  pub text : List ℕ
+  pub read : IsReadWhole c.reads text
+  pub overfull : IsOverfull text
+  pub unwritten : IsUnwritten c.writes
+
+-- the source gave one octet more than a text may have
+pub record IsTooLong (c : Call) : Type 0 where
+  pub replay : IsReplay c.words
+  pub far : IsReadTooFar c.reads
+  pub unwritten : IsUnwritten c.writes
+
+-- want of memory has no cause that is told, but no read failed and nothing was written
+pub record IsNoMemory (c : Call) : Type 0 where
+  pub replay : IsReplay c.words
+  pub read : IsReadPart c.reads
+  pub unwritten : IsUnwritten c.writes
+
+-- an end and its cause
+abbrev pub IsCaused : Call → End → Type 0
+IsCaused c Done = IsDone c
+IsCaused c Usage = IsUsage c
+IsCaused c (Refused line reason) = IsRefused c line reason
+IsCaused c ReadFault = IsFaultOfReading c
+IsCaused c WriteFault = IsFaultOfWriting c
+IsCaused c Events = IsTooMany c
+IsCaused c NoMemory = IsNoMemory c
+IsCaused c TooLong = IsTooLong c

@@ -1,0 +1,39 @@
+-- Which end a call has, but for memory, where no fault rose and the source tells what is left in
+-- it.
+use Rattle.std.specs.Prelude.{◌≡◌, ◌⊎◌, ℕ, ◌<◌, ◌≤◌, List, length, Some}
+use Rattle.ptp_base.specs.declared.limits.TheConstants.{TEXT_MAX}
+use Rattle.text_io.specs.SourceAndSink.{Rose}
+use Rattle.text_io.specs.declared.reason.Reason.{Reason}
+use Rattle.text_io.specs.declared.reason.Reason.TheVariants.{Unbuilt}
+use Rattle.bc_history.specs.declared.scenario.Scenario.{Scenario}
+use Rattle.bc_history.specs.declared.entry.Run.{Run}
+use Rattle.bc_history.specs.Scenario.LineFaults.{Stands, IsFirstFault}
+use Rattle.bc_history.specs.Run.World.{IsWorld, IsEnd, Events as Too_many}
+use Rattle.bc_top.specs.CommandWords.{IsReplay}
+use Rattle.bc_top.specs.Stage.SupportedScenarios.{IsSupported, IsUnsupported}
+use Rattle.bc_top.specs.Call.{Call}
+use Rattle.bc_top.specs.declared.outcome.End.{End}
+use Rattle.bc_top.specs.declared.outcome.End.TheVariants.{Done, Refused, Events, NoMemory, TooLong}
+
+-- the end is the one that is due, or there was no memory
+abbrev pub EndsBy : End → End → Type 0
+EndsBy due end = (end ≡ due) ⊎ (end ≡ NoMemory)
+
+-- the end that is due at a text
+pub record IsEndAt (text : List ℕ) (end : End) : Type 0 where
+  pub done : length text ≤ TEXT_MAX → (s : Scenario) (run : Run) → Stands text s → IsSupported s
+      → IsWorld s run → EndsBy Done end
+  pub events : length text ≤ TEXT_MAX → (s : Scenario) → Stands text s → IsSupported s
+      → IsEnd s Too_many → EndsBy Events end
+  pub unsupported : length text ≤ TEXT_MAX → (s : Scenario) → Stands text s → IsUnsupported s
+      → EndsBy (Refused 0 Unbuilt) end
+  pub refused : length text ≤ TEXT_MAX → (line : ℕ) (reason : Reason)
+      → IsFirstFault text line reason → EndsBy (Refused line reason) end
+  pub too_long : TEXT_MAX < length text → EndsBy TooLong end
+
+-- the end of a call to replay is the one that is due at the text that the source told
+abbrev pub IsComplete : Call → End → Type 0
+IsComplete c end =
+    IsReplay c.words → ¬ (Rose c.reads.faults c.reads.faults_after)
+    → ¬ (Rose c.writes.faults c.writes.faults_after)
+    → (text : List ℕ) → c.reads.left ≡ Some text → IsEndAt text end
