@@ -6,9 +6,11 @@ use Rattle.bc_history.specs.declared.scenario.Asked.{Asked}
 use Rattle.bc_config.specs.declared.draft.record.LineRecord.{LineRecord}
 use Rattle.bc_config.specs.declared.draft.query.LineQuery.{LineQuery}
 
+-- a record that the code found in a line, as one of the scenario
 abbrev pub record_found : LineRecord → Record
 record_found found = record { port = found.port; tick = found.tick; what = found.what }
 
+-- a query that the code found in a line, as one of the scenario
 abbrev pub query_found : LineQuery → Asked
 query_found query = record { tick = query.tick; text = query.text }
 

@@ -27,8 +27,8 @@ AreFirst (Some a) (Some b) (Some c) (Some d) (Some e) words =
 abbrev pub WordsRepresent : Slot × Slot × Slot × Slot × Slot → List (List ℕ) → Type 0
 WordsRepresent (a, b, c, d, e) words = AreFirst a b c d e words
 
--- what the code keeps of a line beside its octets: its first words, and whether all octets may stand
--- in a text
+-- what the code keeps of a line beside its octets: its first words, and whether all octets may
+-- stand in a text
 pub record LineRepresents
     (first : Slot × Slot × Slot × Slot × Slot) (printable : Bool) (octets : List ℕ) : Type 0 where
   pub words : WordsRepresent first (words_of octets)

@@ -12,6 +12,7 @@ IsInRowRange row value = (row.least ≤ℤ value) × (value ≤ℤ row.most)
 abbrev pub HasRange : (least most : ℤ) → Row → Type 0
 HasRange least most row = (least ≤ℤ row.least) × (row.most ≤ℤ most)
 
+-- there is a row, and the value is in its range
 abbrev pub IsInRowOf : Option Row → ℤ → Type 0
 IsInRowOf None value = ⊥
 IsInRowOf (Some row) value = IsInRowRange row value

@@ -3,6 +3,7 @@ use Rattle.std.specs.Prelude.{pos}
 use Rattle.bc_history.specs.declared.scenario.TheConstants.{NO_OPTIONS}
 use Rattle.bc_config.specs.declared.table.Settings.{Settings}
 
+-- options of the whole, of a port and of a clock, each at 0
 abbrev pub no_settings : Settings
 no_settings = record {
   options = NO_OPTIONS;

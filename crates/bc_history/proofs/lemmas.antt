@@ -15,3 +15,8 @@ pub mod OptionRuleLemmas
 pub mod ListRuleLemmas
 pub mod LineRuleLemmas
 pub mod ScenarioRuleLemmas
+pub mod EntryPhaseLemmas
+pub mod PortEntriesLemmas
+pub mod MeasureLemmas
+pub mod ArrivalLemmas
+pub mod StampLemmas

@@ -1,5 +1,8 @@
+pub mod Actors
 pub mod NextInputs
 pub mod History
+pub mod PortEntries
+pub mod Samples
 pub mod ExchangeOutcomes
 pub mod PortPlace
 pub mod FollowerPlace

@@ -91,7 +91,8 @@ pub fn told_too_late()
 
 /// A master counts from its second Announce within four announce intervals.
 pub fn two_announces_qualify()
-    ensures one { (moves_after (one_port 9000000000 (frame_at 1 1000000000 (announce_frame 0) ∷ [])) 40)
+    ensures one { (moves_after (one_port 9000000000 (frame_at 1 1000000000 (announce_frame 0)
+        ∷ [])) 40)
         ≡ Some (at 6000000000 1 Listening Master ∷ []) }
     ensures late { (moves_after
         (one_port 9000000000

@@ -6,7 +6,9 @@ mod examples;
 mod laws;
 mod option;
 mod option_laws;
+mod place;
 mod port_input;
+mod port_laws;
 mod rule_laws;
 mod scenario;
 mod section;
@@ -28,7 +30,12 @@ pub use laws::{
 };
 pub use option::{Form, Scope};
 pub use option_laws::{defaults_are_of_the_table, options_are_named};
+pub use place::PortPlace;
 pub use port_input::{EventContext, PortEntry, PortHappening, PortInput};
+pub use port_laws::{
+    measures_bear_readings, measures_bear_their_ports_stamp, places_are_by_measures,
+    ports_are_told_by_their_own_entries, ports_keep_their_entries,
+};
 pub use ptp_management::{Answers, AskError};
 pub use ptp_profile::Logs;
 pub use rule_laws::scenarios_keep_the_rules;

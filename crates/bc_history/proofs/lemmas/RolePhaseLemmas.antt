@@ -180,3 +180,8 @@ LeavesForests-state_of s is (e ∷ before) =
 pub controllers-forest : (s : Scenario) → IsScenario s → (entries : List Entry) (k : ℕ)
     → IsForest (ctrls_after (replicate (length s.clocks) 0) (take k (reverse (state_of s entries).roles.orders)))
 controllers-forest s is entries = (LeavesForests-state_of s is entries).forests
+
+-- after a history the controllers that all its orders leave are those of the edges
+pub ctrls-state_of : (s : Scenario) → IsScenario s → (entries : List Entry)
+    → ctrls_after (replicate (length s.clocks) 0) (reverse (state_of s entries).roles.orders) ≡ ctrls_of (state_of s entries).roles.edges
+ctrls-state_of s is entries = (LeavesForests-state_of s is entries).ctrls

@@ -98,7 +98,7 @@ told_by o c r (Report port tick gener action outcome) fs = None
 told_by o c r (Sampled clock tick lead theirs own action outcome) fs = None
 told_by o c r (Query tick text) fs = None
 
--- the fate of an entry's frame, and the frames that it sends: those of its port, where it has one
+-- the fate of an entry's frame; an entry that is no port's has none
 abbrev pub entry_fate : Options → Option PortEntry → Core → Option Fate
 entry_fate o None c = None
 entry_fate o (Some e) c = fate_at o e c

@@ -1,5 +1,6 @@
 -- What an input says of itself.
-use Rattle.std.specs.Prelude.{ℕ, zero, suc, ℤ, pos, Bool, true, false, List, [], ◌∷◌, slice_get, Option, Some, None}
+use Rattle.std.specs.Prelude.{ℕ, zero, suc, ℤ, pos, ◌≤ℤ◌, Bool, true, false, List, [], ◌∷◌, slice_get, Option, Some, None, IfSome}
+use Rattle.ptp_base.specs.declared.time.TheConstants.{TIME_MAX}
 use Rattle.bc_history.specs.declared.entry.Input.{Input}
 use Rattle.bc_history.specs.declared.entry.Input.TheVariants.{Frame, Timed, Down, Up, Report, Turn, Sampled, Query}
 use Rattle.bc_history.specs.declared.entry.Seen.{Seen}
@@ -72,6 +73,14 @@ is_read (Query tick text) = false
 abbrev pub value_of : Option Seen → ℤ
 value_of None = pos 0
 value_of (Some seen) = seen.value
+
+-- a time that a clock reads, in ns
+abbrev pub IsTime : ℤ → Type 0
+IsTime t = (pos 0 ≤ℤ t) × (t ≤ℤ TIME_MAX)
+
+-- what the entry read, if it read anything, is a time
+abbrev pub IsReadTime : Entry → Type 0
+IsReadTime e = IfSome e.seen (λ (seen : Seen). IsTime seen.value)
 
 -- what an entry adds by itself
 abbrev pub event_of : Entry → Event

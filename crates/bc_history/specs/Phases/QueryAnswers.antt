@@ -26,13 +26,14 @@ answering_port h = record {
   receipt = h.port.conf.receipt;
 }
 
--- offsetFromMaster and meanDelay of the last measure, in ns times 65,536, held within 64 bits; 0
--- before the first (8.2.2)
+-- offsetFromMaster of the last measure, in ns times 65,536, held within 64 bits; 0 before the first
+-- (8.2.2)
 abbrev pub offset_within : Option Measure → ℤ
 offset_within None = pos 0
 offset_within (Some m) = saturate_signed w64 m.offset
 
--- meanDelay of the last measure, held within 64 bits; 0 before the first
+-- meanDelay of the last measure, in ns times 65,536, held within 64 bits; 0 before the first
+-- (8.2.2)
 abbrev pub delay_within : Option Measure → ℤ
 delay_within None = pos 0
 delay_within (Some m) = saturate_signed w64 m.delay

@@ -1,14 +1,11 @@
 -- What a history gives: each port, the data sets, the roles, and what the followers were told.
 use Rattle.std.specs.Prelude.{ℕ, List, Option}
 use Rattle.ptp_profile.specs.declared.timing.Measure.{Measure}
-use Rattle.ptp_profile.specs.declared.seats.Held.{Held}
 use Rattle.ptp_profile.specs.declared.roles.Edge.{Edge}
 use Rattle.ptp_profile.specs.declared.roles.RoleOrder.{RoleOrder}
 use Rattle.ptp_profile.specs.declared.roles.Notice.{Notice}
 use Rattle.ptp_profile.specs.declared.roles.Lead.{Lead}
-use Rattle.ptp_profile.specs.declared.foreign_master.KeptAnnounce.{KeptAnnounce}
 use Rattle.ptp_profile.specs.Best.MasterData.{Master}
-use Rattle.ptp_profile.specs.Port.Port.{Port}
 use Rattle.bc_history.specs.declared.entry.Input.{Input}
 use Rattle.bc_history.specs.declared.entry.Seen.{Seen}
 use Rattle.bc_history.specs.Phases.HubPort.{HubPort}
@@ -30,6 +27,7 @@ pub record TickLead : Type 0 where
 
 -- the follower of one clock
 pub record Follower : Type 0 where
+  -- how many turns it took
   pub turns : ℕ
   -- the last subscription
   pub subscribed : Option Subscription

@@ -251,7 +251,7 @@ moves_after s turns =
 abbrev pub at : ℕ → ℕ → PortState → PortState → ℕ × Moved
 at moment port old new = (moment, record { port = port; old = old; new = new })
 
--- the outcomes of a run's reports
+-- the outcome that a port reports
 abbrev pub report_in : Input → Option Outcome
 report_in (Report port tick gener action outcome) = Some outcome
 report_in (Frame port tick octets) = None
@@ -294,7 +294,7 @@ first_follow_up =
     8 ∷ 18 ∷ 0 ∷ 44 ∷ 0 ∷ 0 ∷ 0 ∷ 0 ∷ 0 ∷ 0 ∷ 0 ∷ 0 ∷ 0 ∷ 0 ∷ 0 ∷ 0 ∷ 0 ∷ 0 ∷ 0 ∷ 0 ∷ 2 ∷ 0 ∷ 0
     ∷ 255 ∷ 254 ∷ 0 ∷ 0 ∷ 1 ∷ 0 ∷ 1 ∷ 0 ∷ 0 ∷ 2 ∷ 0 ∷ 0 ∷ 0 ∷ 0 ∷ 0 ∷ 0 ∷ 7 ∷ 0 ∷ 0 ∷ 0 ∷ 0 ∷ []
 
--- how many frames of how many octets a port sent
+-- how many octets each frame has that ports sent, where the run has ended
 abbrev pub lengths_after : Scenario → ℕ → Option (List ℕ)
 lengths_after s turns =
     option_map (λ (frames : List Sent). map (λ (sent : Sent). length sent.octets) frames)

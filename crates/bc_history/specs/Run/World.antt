@@ -1,18 +1,16 @@
 -- The run that a list of turns gives: one actor takes one step at a time.
-use Rattle.std.specs.Prelude.{ℕ, zero, suc, ℤ, pos, ◌+◌, ◌-◌, ◌-ℤ◌, ◌≡◌, Bool, true, false, ◌==◌, nat_le, nat_lt, if◌then◌else◌, List, [], ◌∷◌, ◌++◌, length, map, filter, filter_map, slice_get, slice_set, replicate, Option, Some, None, option_map, option_and_then, reverse}
+use Rattle.std.specs.Prelude.{ℕ, zero, suc, ◌+◌, ◌-◌, ◌≡◌, ◌==◌, Bool, true, false, nat_le, nat_lt, if◌then◌else◌, List, [], ◌∷◌, length, map, filter, filter_map, slice_get, slice_set, replicate, Option, Some, None, option_map, option_and_then, reverse}
 use Rattle.std.specs.Option.{option_or}
-use Rattle.ptp_base.specs.Floor.{ns_of}
 use Rattle.ptp_base.specs.Least.{first_least}
 use Rattle.ptp_base.specs.declared.limits.TheConstants.{ENTRIES_MAX}
 use Rattle.model_clock.specs.Clock.{clock_at, reading}
 use Rattle.ptp_profile.specs.declared.timing.Action.{Action}
 use Rattle.ptp_profile.specs.declared.timing.Action.TheVariants.{Unlocked as Unlocked_action}
-use Rattle.ptp_profile.specs.declared.timing.Measure.{Measure}
 use Rattle.ptp_profile.specs.declared.roles.Lead.{Lead}
 use Rattle.ptp_profile.specs.declared.seats.Held.{Held}
 use Rattle.ptp_profile.specs.declared.seats.LogEntry.{LogEntry}
 use Rattle.ptp_profile.specs.declared.seats.Reading.{Reading}
-use Rattle.ptp_profile.specs.Timing.Servo.{Sample, newest_action}
+use Rattle.ptp_profile.specs.Timing.Servo.{newest_action}
 use Rattle.ptp_profile.specs.Roles.SeatLogs.{log_at, logs_from, no_logs, whole_reading, with_orders}
 use Rattle.bc_history.specs.declared.entry.Entry.{Entry}
 use Rattle.bc_history.specs.declared.entry.Input.{Input}
@@ -30,18 +28,23 @@ use Rattle.bc_history.specs.declared.scenario.Turner.TheVariants.{Default, Port 
 use Rattle.bc_history.specs.declared.scenario.Turns.{Turns}
 use Rattle.bc_history.specs.Phases.State.{Follower, State}
 use Rattle.bc_history.specs.Phases.HubPort.{HubPort}
-use Rattle.bc_history.specs.Phases.Inputs.{tick_of, port_of, port_at, changed_at, at_port, is_read}
+use Rattle.bc_history.specs.Phases.Inputs.{tick_of, port_at, changed_at, at_port, is_read}
 use Rattle.bc_history.specs.Phases.OpeningState.{servo_of, follower_count}
 use Rattle.bc_history.specs.Run.ExchangeOutcomes.{exchange_result}
 use Rattle.bc_history.specs.Phases.Step.{state_of}
 use Rattle.bc_history.specs.Phases.EntryEffects.{entry_after}
 use Rattle.bc_history.specs.Run.NextInputs.{next_input, turn_tick, query_input}
-use Rattle.bc_history.specs.Run.PortPlace.{PortPlace, Waits, Exchanges, Reports}
+use Rattle.bc_history.specs.Run.Actors.{actors_of}
+use Rattle.bc_history.specs.Run.Samples.{follower_samples, sample_of}
+use Rattle.bc_history.specs.declared.place.PortPlace.{PortPlace}
+use Rattle.bc_history.specs.declared.place.PortPlace.TheVariants.{Waits, Exchanges, Reports}
+use Rattle.bc_history.specs.Run.PortPlace.{after_port_exchange, place_by_entries}
 use Rattle.bc_history.specs.Run.FollowerPlace.{FollowerPlace, Turns_next, Reads_theirs, Reads_own, Exchanges_own, Samples}
 
 -- ---- where an actor is in its job
 
--- entries and logs have the newest first; the logs are by rising clock
+-- the run so far and where each actor is in its job; entries and logs have the newest first, the
+-- logs are by rising clock
 pub record World : Type 0 where
   pub entries : List Entry
   pub logs : List (List LogEntry)
@@ -57,6 +60,54 @@ world_opening s = record {
   followers = replicate (follower_count s) Turns_next;
 }
 
+-- where an actor is in its job, whoever it is
+pub data Place : Type 0 where
+  Of_port : PortPlace → Place
+  Of_follower : FollowerPlace → Place
+  Of_queries : Place
+
+-- where an actor is; None where it is not there
+abbrev pub place_of : World → Who → Option Place
+place_of w (A_port p) = option_map (λ place. Of_port place) (port_at w.ports p)
+place_of w (A_follower c) = option_map (λ place. Of_follower place) (slice_get w.followers c)
+place_of w The_queries = Some Of_queries
+
+-- an actor is in the middle of its job
+abbrev pub is_busy : Place → Bool
+is_busy (Of_port Waits) = false
+is_busy (Of_port (Exchanges tick held action)) = true
+is_busy (Of_port (Reports tick gener action outcome)) = true
+is_busy (Of_follower Turns_next) = false
+is_busy (Of_follower (Reads_theirs tick lead)) = true
+is_busy (Of_follower (Reads_own tick lead theirs)) = true
+is_busy (Of_follower (Exchanges_own tick lead theirs own action)) = true
+is_busy (Of_follower (Samples tick lead theirs own action outcome)) = true
+is_busy Of_queries = false
+
+-- how many readings and exchanges an actor makes before its next event
+abbrev pub free_steps : Place → ℕ
+free_steps (Of_port Waits) = 0
+free_steps (Of_port (Exchanges tick held action)) = 1
+free_steps (Of_port (Reports tick gener action outcome)) = 0
+free_steps (Of_follower Turns_next) = 0
+free_steps (Of_follower (Reads_theirs tick lead)) = 3
+free_steps (Of_follower (Reads_own tick lead theirs)) = 2
+free_steps (Of_follower (Exchanges_own tick lead theirs own action)) = 1
+free_steps (Of_follower (Samples tick lead theirs own action outcome)) = 0
+free_steps Of_queries = 0
+
+-- an actor's next step is an event, and no reading or exchange
+abbrev pub is_inside : Place → Bool
+is_inside place = free_steps place == 0
+
+-- an actor at another place
+abbrev pub with_place : Who → Place → World → World
+with_place (A_port p) (Of_port place) w =
+    record w { ports = at_port (λ former. place) p w.ports }
+with_place (A_follower c) (Of_follower place) w =
+    record w { followers = changed_at (λ former. place) c w.followers }
+with_place who place w = w
+
 -- ---- clocks and their logs
 
 -- what a reading shows at a tick
@@ -67,65 +118,12 @@ seen_at tick r = record { number = r.number; value = reading r.state tick; freq 
 abbrev pub seen_of : Scenario → World → ℕ → ℕ → Seen
 seen_of s w c tick = seen_at tick (whole_reading (clock_at s.clocks c) (log_at w.logs c))
 
--- ---- samples and actions
-
--- the sample of a port's entry that gave a measure
-abbrev pub port_sample : ℕ → Entry → Option Sample
-port_sample p e = if is_of (port_of e.input) then option_map made e.effects.measure else None
-  where
-    is_of : Option ℕ → Bool
-    is_of None = false
-    is_of (Some q) = p == q
-
-    freq_of : Option Seen → ℤ
-    freq_of None = pos 0
-    freq_of (Some seen) = seen.freq
-
-    made : Measure × Held → Sample
-    made m = record
-        { gener = m.1.gener; freq = freq_of e.seen; offset = ns_of m.0.offset; local = m.0.local }
-
--- the samples of a port, the newest first
-abbrev pub port_samples : ℕ → List Entry → List Sample
-port_samples p entries = filter_map (port_sample p) entries
-
--- the sample that a follower's two readings make
-abbrev pub sample_of : Lead → Seen → Seen → Sample
-sample_of lead theirs own =
-    record {
-      gener = lead.gener;
-      freq = own.freq;
-      offset = own.value -ℤ theirs.value;
-      local = own.value;
-    }
-
--- the sample of a follower's entry
-abbrev pub follower_sample : ℕ → Input → Option Sample
-follower_sample c (Sampled clock tick lead theirs own action outcome) =
-    if clock == c then Some (sample_of lead theirs own) else None
-follower_sample c _ = None
-
--- the samples of a follower, the newest first
-abbrev pub follower_samples : ℕ → List Entry → List Sample
-follower_samples c entries = filter_map (λ (e : Entry). follower_sample c e.input) entries
-
 -- ---- steps
 
 -- a step: an event of the hub, or a reading or an exchange
 pub data Step : Type 0 where
   Event : World → Step
   Free : World → Step
-
--- an action that asks for nothing needs no exchange
-abbrev pub port_job : ℕ → Held → Action → PortPlace
-port_job tick held Unlocked_action = Reports tick held.gener Unlocked_action Unlocked
-port_job tick held action = Exchanges tick held action
-
--- where a port is after its event: at its job where the entry gave a measure
-abbrev pub port_place : Scenario → ℕ → List Entry → ℕ → Option (Measure × Held) → PortPlace
-port_place s p entries tick None = Waits
-port_place s p entries tick (Some m) =
-    port_job tick m.1 (newest_action (servo_of s.options) (port_samples p entries))
 
 -- the entry is added, and its orders are appended to the logs
 abbrev pub with_entry : World → Entry → World
@@ -137,9 +135,7 @@ port_event s w p input seen = placed (entry_after s w.entries input seen)
   where
     placed : Entry → World
     placed e = record (with_entry w e) {
-      ports = at_port
-          (λ place. port_place s p (e ∷ w.entries) (tick_of input) e.effects.measure) p
-          w.ports;
+      ports = at_port (λ place. place_by_entries s.options p (e ∷ w.entries)) p w.ports;
     }
 
 -- a reading comes with a frame and a timer
@@ -166,8 +162,7 @@ port_step s w p h (Exchanges tick held action) = Some (Free (after (exchange_res
     after : Outcome × List LogEntry → World
     after x = record w {
       logs = slice_set w.logs held.clock x.1;
-      ports = at_port
-          (λ place. Reports tick held.gener action x.0) p w.ports;
+      ports = at_port (after_port_exchange x.0) p w.ports;
     }
 port_step s w p h (Reports tick gener action outcome) =
     Some (Event (port_event s w p (Report p tick gener action outcome) None))
@@ -177,8 +172,8 @@ abbrev pub held_by : ℕ → Lead → Held
 held_by c lead = record { clock = c; gener = lead.gener; ctrl = 128 + lead.source }
 
 -- the follower of clock c at another place
-abbrev pub placed_follower : World → ℕ → FollowerPlace → World
-placed_follower w c place = record w { followers = changed_at (λ former. place) c w.followers }
+abbrev pub with_follower : World → ℕ → FollowerPlace → World
+with_follower w c place = with_place (A_follower c) (Of_follower place) w
 
 -- where a follower is after its turn
 abbrev pub turn_place : ℕ → Option Lead → FollowerPlace
@@ -200,7 +195,7 @@ abbrev pub follower_event : Scenario → World → ℕ → Input → (Entry → 
 follower_event s w c input place = placed (entry_after s w.entries input None)
   where
     placed : Entry → World
-    placed e = placed_follower (with_entry w e) c (place e)
+    placed e = with_follower (with_entry w e) c (place e)
 
 -- the next step of the follower of clock c from its place, where it has one that is due
 abbrev pub follower_step : Scenario → World → ℕ → Follower → FollowerPlace → Option Step
@@ -213,8 +208,8 @@ follower_step s w c f Turns_next =
     else
     None
 follower_step s w c f (Reads_theirs tick lead) =
-    Some (Free (placed_follower w c (Reads_own tick lead (seen_of s w lead.source tick))))
-follower_step s w c f (Reads_own tick lead theirs) = Some (Free (placed_follower w c (acting (seen_of s w c tick))))
+    Some (Free (with_follower w c (Reads_own tick lead (seen_of s w lead.source tick))))
+follower_step s w c f (Reads_own tick lead theirs) = Some (Free (with_follower w c (acting (seen_of s w c tick))))
   where
     acting : Seen → FollowerPlace
     acting own = follower_job tick lead theirs own
@@ -223,7 +218,7 @@ follower_step s w c f (Reads_own tick lead theirs) = Some (Free (placed_follower
 follower_step s w c f (Exchanges_own tick lead theirs own action) = Some (Free (after (exchange_result s.options.seat_rows (held_by c lead) tick action (log_at w.logs c))))
   where
     after : Outcome × List LogEntry → World
-    after x = placed_follower (record w { logs = slice_set w.logs c x.1 }) c
+    after x = with_follower (record w { logs = slice_set w.logs c x.1 }) c
         (Samples tick lead theirs own action x.0)
 follower_step s w c f (Samples tick lead theirs own action outcome) =
     Some
@@ -239,32 +234,51 @@ query_step s w (Some asked) =
     else
     None
 
+-- the next step of an actor from its place, if it has one
+abbrev pub step_from : Scenario → World → Who → Place → Option Step
+step_from s w (A_port p) (Of_port place) =
+    option_and_then (λ h. port_step s w p h place) (port_at (state_of s w.entries).core.ports p)
+step_from s w (A_follower c) (Of_follower place) =
+    option_and_then (λ f. follower_step s w c f place)
+    (slice_get (state_of s w.entries).followers c)
+step_from s w The_queries Of_queries =
+    query_step s w (query_input s (state_of s w.entries))
+step_from s w who place = None
+
 -- the next step of an actor, if it has one
 abbrev pub step_of : Scenario → World → Who → Option Step
-step_of s w (A_port p) =
-    option_and_then (λ h. option_and_then (λ place. port_step s w p h place) (port_at w.ports p))
-    (port_at (state_of s w.entries).core.ports p)
-step_of s w (A_follower c) =
-    option_and_then
-    (λ f. option_and_then (λ place. follower_step s w c f place) (slice_get w.followers c))
-    (slice_get (state_of s w.entries).followers c)
-step_of s w The_queries = query_step s w (query_input s (state_of s w.entries))
+step_of s w who = option_and_then (λ place. step_from s w who place) (place_of w who)
 
 -- ---- turns
 
--- the tick of the step that an actor has, and whether it is in the middle of its job
-abbrev pub port_due : Scenario → HubPort → PortPlace → Option (ℕ × Bool)
-port_due s h Waits = option_map (λ input. (tick_of input, false)) (next_input s h)
-port_due s h (Exchanges tick held action) = Some (tick, true)
-port_due s h (Reports tick gener action outcome) = Some (tick, true)
+-- the tick of a port's next step, if it has one
+abbrev pub port_due : Scenario → HubPort → PortPlace → Option ℕ
+port_due s h Waits = option_map tick_of (next_input s h)
+port_due s h (Exchanges tick held action) = Some tick
+port_due s h (Reports tick gener action outcome) = Some tick
 
--- when a follower's next step is due, and whether it is in the middle of its job
-abbrev pub follower_due : Scenario → Follower → FollowerPlace → ℕ × Bool
-follower_due s f Turns_next = (turn_tick s f, false)
-follower_due s f (Reads_theirs tick lead) = (tick, true)
-follower_due s f (Reads_own tick lead theirs) = (tick, true)
-follower_due s f (Exchanges_own tick lead theirs own action) = (tick, true)
-follower_due s f (Samples tick lead theirs own action outcome) = (tick, true)
+-- the tick of a follower's next step
+abbrev pub follower_due : Scenario → Follower → FollowerPlace → ℕ
+follower_due s f Turns_next = turn_tick s f
+follower_due s f (Reads_theirs tick lead) = tick
+follower_due s f (Reads_own tick lead theirs) = tick
+follower_due s f (Exchanges_own tick lead theirs own action) = tick
+follower_due s f (Samples tick lead theirs own action outcome) = tick
+
+-- the tick of the next step of an actor at a place, if it has one, after what a history gives
+abbrev pub place_due : Scenario → State → Who → Place → Option ℕ
+place_due s h (A_port p) (Of_port place) =
+    option_and_then (λ port. port_due s port place) (port_at h.core.ports p)
+place_due s h (A_follower c) (Of_follower place) =
+    option_map (λ f. follower_due s f place) (slice_get h.followers c)
+place_due s h The_queries Of_queries =
+    option_map (λ (asked : Asked). asked.tick) (query_input s h)
+place_due s h who place = None
+
+-- the tick of the next step of an actor at a place, where that is due before the run ends
+abbrev pub due_by_end : Scenario → State → Who → Place → Option ℕ
+due_by_end s h who place =
+    option_and_then (λ tick. if is_due s tick then Some tick else None) (place_due s h who place)
 
 -- one who may take a step: the tick, whether in the middle of a job, and who
 pub record Candidate : Type 0 where
@@ -272,36 +286,22 @@ pub record Candidate : Type 0 where
   pub busy : Bool
   pub who : Who
 
--- an actor whose next step is due before the run ends
-abbrev pub due_candidate : Scenario → Who → Option (ℕ × Bool) → Option Candidate
-due_candidate s who None = None
-due_candidate s who (Some due) =
-    if is_due s due.0 then Some (record { tick = due.0; busy = due.1; who = who }) else None
+-- an actor at a place, where its next step is due before the run ends
+abbrev pub candidate_at : Scenario → State → Who → Place → Option Candidate
+candidate_at s h who place =
+    option_map (λ tick. record { tick = tick; busy = is_busy place; who = who })
+    (due_by_end s h who place)
 
--- the ports with a step that is due, from port p on
-abbrev pub port_candidates : Scenario → ℕ → List HubPort → List PortPlace → List (Option Candidate)
-port_candidates s p (h ∷ hs) (place ∷ places) =
-    due_candidate s (A_port p) (port_due s h place) ∷ port_candidates s (p + 1) hs places
-port_candidates s p _ _ = []
-
--- the followers with a step that is due, from clock c on
-abbrev pub follower_candidates :
-    Scenario → ℕ → List Follower → List FollowerPlace → List (Option Candidate)
-follower_candidates s c (f ∷ fs) (place ∷ places) =
-    due_candidate s (A_follower c) (Some (follower_due s f place))
-    ∷ follower_candidates s (c + 1) fs places
-follower_candidates s c _ _ = []
+-- an actor of the World, where its next step is due before the run ends
+abbrev pub candidate_of : Scenario → State → World → Who → Option Candidate
+candidate_of s h w who = option_and_then (λ place. candidate_at s h who place) (place_of w who)
 
 -- all actors that have a step: ports, then followers, each rising, then queries
 abbrev pub candidates : Scenario → World → List Candidate
 candidates s w = of (state_of s w.entries)
   where
     of : State → List Candidate
-    of h = filter_map (λ candidate. candidate)
-        (port_candidates s 1 h.core.ports w.ports ++ follower_candidates s 0 h.followers w.followers
-        ++ due_candidate s The_queries
-        (option_map (λ (asked : Asked). (asked.tick, false)) (query_input s h))
-        ∷ [])
+    of h = filter_map (candidate_of s h w) (actors_of s)
 
 -- of those with the least tick the first
 abbrev pub first_of : List Candidate → Option Who

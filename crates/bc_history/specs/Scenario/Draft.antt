@@ -17,6 +17,7 @@ pub record Draft : Type 0 where
   pub section : Option Section
   -- the options that stand in it, by their numbers
   pub named : List ℕ
+  -- the options of the whole
   pub options : Options
   -- what a port begins with
   pub defaults : PortConf

@@ -43,6 +43,7 @@ put (Multiple unit get set) value x = set (value *ℤ pos unit) x
 abbrev pub IsFrom : (least most n : ℕ) → Type 0
 IsFrom least most n = (least ≤ n) × (n ≤ most)
 
+-- a whole number no less than the least and no more than the greatest
 abbrev pub IsBetween : (least most z : ℤ) → Type 0
 IsBetween least most z = (least ≤ℤ z) × (z ≤ℤ most)
 
@@ -72,6 +73,7 @@ pub record PlacedRow : Type 0 where
   pub row : Row
   pub place : Place
 
+-- what the option that sets a field is one of
 abbrev pub scope_of : Place → Scope
 scope_of (Options_place field) = Global
 scope_of (Port_place field) = Port
@@ -166,6 +168,7 @@ option_table =
     (Clock_place (Multiple 65536 (λ (c : ClockState). c.drift) (λ z c. record c { drift = z })))
     ∷ []
 
+-- the row of a number, with its field
 abbrev pub placed_row : ℕ → Option PlacedRow
 placed_row number = slice_get option_table number
 
@@ -215,6 +218,7 @@ abbrev pub in_range : Row → Option ℤ → Option ℤ
 in_range row None = None
 in_range row (Some value) = if is_in_range row value then Some value else None
 
+-- the value that a word stands for in a row, where there is one
 abbrev pub value_in : Option Row → List ℕ → Option ℤ
 value_in None word = None
 value_in (Some row) word = in_range row (read_as row.form word)
@@ -225,18 +229,19 @@ value_of number word = value_in (row_of number) word
 
 -- ---- what an option sets
 
--- a value at its place in the options, in a port or in a clock: those that have not the place stay
--- as they are
+-- the options with a value at its place; the place of a port or of a clock leaves them as they are
 abbrev pub options_with : Place → ℤ → Options → Options
 options_with (Options_place field) value o = put field value o
 options_with (Port_place field) value o = o
 options_with (Clock_place field) value o = o
 
+-- a port with a value at its place; the place of the options or of a clock leaves it as it is
 abbrev pub port_with : Place → ℤ → PortConf → PortConf
 port_with (Options_place field) value p = p
 port_with (Port_place field) value p = put field value p
 port_with (Clock_place field) value p = p
 
+-- a clock with a value at its place; the place of the options or of a port leaves it as it is
 abbrev pub clock_with : Place → ℤ → ClockState → ClockState
 clock_with (Options_place field) value c = c
 clock_with (Port_place field) value c = c
@@ -247,10 +252,12 @@ abbrev pub with_option : ℕ → ℤ → Options → Options
 with_option number value o =
     option_map_or (λ (p : PlacedRow). options_with p.place value o) (placed_row number) o
 
+-- a port with one of its options set
 abbrev pub with_port_option : ℕ → ℤ → PortConf → PortConf
 with_port_option number value conf =
     option_map_or (λ (p : PlacedRow). port_with p.place value conf) (placed_row number) conf
 
+-- a clock with one of its options set
 abbrev pub with_clock_option : ℕ → ℤ → ClockState → ClockState
 with_clock_option number value c =
     option_map_or (λ (p : PlacedRow). clock_with p.place value c) (placed_row number) c
@@ -277,8 +284,7 @@ abbrev pub EachRow : (PlacedRow → Type 0) → List PlacedRow → Type 0
 EachRow P [] = Unit {0}
 EachRow P (row ∷ rows) = P row × EachRow P rows
 
--- the value of an option of the whole is in its row's range, and that of a port's or a clock's
--- option
+-- the value of an option of the whole is in its row's range
 abbrev pub OptionIsFrom : Options → PlacedRow → Type 0
 OptionIsFrom o p = by p.place
   where
@@ -287,6 +293,7 @@ OptionIsFrom o p = by p.place
     by (Port_place field) = Unit {0}
     by (Clock_place field) = Unit {0}
 
+-- the value of a port's option is in its row's range
 abbrev pub PortOptionIsFrom : PortConf → PlacedRow → Type 0
 PortOptionIsFrom conf p = by p.place
   where
@@ -295,6 +302,7 @@ PortOptionIsFrom conf p = by p.place
     by (Port_place field) = Holds p.row.least p.row.most field conf
     by (Clock_place field) = Unit {0}
 
+-- the value of a clock's option is in its row's range
 abbrev pub ClockOptionIsFrom : ClockState → PlacedRow → Type 0
 ClockOptionIsFrom c p = by p.place
   where

@@ -8,11 +8,13 @@ use Rattle.bc_history.specs.declared.scenario.Record.{Record}
 use Rattle.bc_history.specs.declared.scenario.Asked.{Asked}
 use Rattle.bc_history.specs.declared.scenario.Turns.{Turns}
 
--- a scenario
+-- what a run is made from; the ports are numbered from 1, the clocks from 0
 pub record Scenario : Type 0 where
   pub options : Options
   pub clocks : List ClockState
   pub ports : List PortConf
+  -- what happens to the ports, and the management queries
   pub records : List Record
   pub queries : List Asked
+  -- the schedule; behind it the default rule says whose turn it is
   pub turns : List Turns

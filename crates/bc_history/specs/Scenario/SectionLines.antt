@@ -43,12 +43,14 @@ frame_of word = by (decode_of word)
     by (Ok []) = None
     by (Err e) = None
 
+-- what happens to a port: its link goes down or comes up, or a frame arrives
 abbrev pub happening_of : List ℕ → Option Happening
 happening_of word =
     if is_word word (codes "down") then Some Down
     else if is_word word (codes "up") then Some Up
     else frame_of word
 
+-- the record of a tick, a port and what happens, where all three are there
 abbrev pub record_in : Option ℕ → Option ℕ → Option Happening → Option Record
 record_in tick port what =
     option_and_then
@@ -57,6 +59,7 @@ record_in tick port what =
     port)
     tick
 
+-- the record that the words of a line are
 abbrev pub record_of : List (List ℕ) → Option Record
 record_of (tick ∷ port ∷ what ∷ []) =
     record_in (number_of tick) (number_of port) (happening_of what)
@@ -78,6 +81,7 @@ is_early_record ports records (tick ∷ port ∷ rest) = by (number_of tick) (nu
     by None p = false
 is_early_record ports records _ = false
 
+-- how many octets a frame has; 0 where the link goes down or comes up
 abbrev pub frame_length : Happening → ℕ
 frame_length (Frame octets) = length octets
 frame_length Down = 0
@@ -85,6 +89,7 @@ frame_length Up = 0
 
 -- ---- queries: `TICK` and at least one further word; the text is those words, joined by one space
 
+-- the query that the words of a line are
 abbrev pub query_of : List (List ℕ) → Option Asked
 query_of (tick ∷ word ∷ words) =
     option_map (λ t. record { tick = t; text = join_with_byte 32 (word ∷ words) }) (number_of tick)
@@ -109,11 +114,13 @@ is_early_query queries (tick ∷ rest) = by (number_of tick)
 
 -- ---- schedule: `default K`, `port N K`, `clock C K`, `queries K`
 
+-- how many turns a word stands for, from 1 to the most of a line
 abbrev pub count_of : List ℕ → Option ℕ
 count_of word =
     option_and_then (λ k. if nat_le 1 k && nat_le k most_turns then Some k else None)
     (number_of word)
 
+-- so many turns of one actor
 abbrev pub turns_by : Turner → List ℕ → Option Turns
 turns_by who count = option_map (λ k. record { who = who; count = k }) (count_of count)
 
@@ -126,17 +133,20 @@ turner_of ports clocks name number = option_and_then by (number_of number)
         else if is_word name (codes "clock") && is_follower clocks n then Some (Clock n)
         else None
 
+-- turns of the default rule or of the queries: `default K`, `queries K`
 abbrev pub plain_turns : (name count : List ℕ) → Option Turns
 plain_turns name count =
     if is_word name (codes "default") then turns_by Default count
     else if is_word name (codes "queries") then turns_by Queries count
     else None
 
+-- turns of a port or of a follower: `port N K`, `clock C K`
 abbrev pub placed_turns :
     List PortConf → List ClockState → (name number count : List ℕ) → Option Turns
 placed_turns ports clocks name number count =
     option_and_then (λ who. turns_by who count) (turner_of ports clocks name number)
 
+-- the turns that the words of a line are
 abbrev pub turns_of : List PortConf → List ClockState → List (List ℕ) → Option Turns
 turns_of ports clocks (name ∷ count ∷ []) = plain_turns name count
 turns_of ports clocks (name ∷ number ∷ count ∷ []) = placed_turns ports clocks name number count
