@@ -1,3 +1,16 @@
 pub mod SeatLawLemmas
 pub mod SeatInvariantLemmas
 pub mod ReversalLemmas
+pub mod LogWordLemmas
+pub mod RowLemmas
+pub mod RuleLemmas
+pub mod StoryEndLemmas
+pub mod StoryLemmas
+pub mod StepLemmas
+pub mod CallLemmas
+pub mod MeetLemmas
+pub mod StoryTruthLemmas
+pub mod RowStepLemmas
+pub mod ClockStateLemmas
+pub mod ControllerLemmas
+pub mod HeldOrderLemmas

@@ -1,10 +1,16 @@
-ghost use Rattle.std.specs.Prelude.{◌≡◌, ◌+◌, ◌≤◌, ◌∷◌, [], IfOk};
+ghost use Rattle.std.specs.Prelude.{◌≡◌, ◌+◌, ◌≤◌, ◌∷◌, [], IfOk, length};
+ghost use Rattle.ptp_profile.specs.Roles.SeatLogs.{HasOrder};
+ghost use Rattle.discipline_seat.specs.declared.view.Owner.TheVariants.{Port};
+ghost use Rattle.discipline_seat.specs.Rule.SeatView.{seen_log};
+ghost use Rattle.discipline_seat.specs.SeatValue.{IsSeatOf};
+ghost use Rattle.discipline_seat.specs.HubOrders.{IsOrderedBy};
 ghost use Rattle.ptp_profile.specs.declared.seats.LogEntry.TheVariants.{Order};
 
 use crate::*;
 use model_clock::ClockState;
 use ptp_base::NoMemory;
 use std::alloc::Global;
+use std::thread::{Threads, join};
 
 const SECOND: u64 = 1_000_000_000;
 
@@ -109,4 +115,206 @@ fn holders_are_refused(rt: HostRuntime) {
         Some(Err(Refused::Spent { at: 2 }))
     );
     assert_eq!(rt; parted(rt.alloc()).ok(), Some((1, 1)));
+}
+
+/// Seats of a clock that reads 0 at tick 0, given to port 1, which knows of it, with the passes of
+/// ports 1 and 2 and of the clock's follower.
+fn shared(alloc: Global, rows: u32) -> Result<(Seats, HubSeat, Pass, Pass, Pass), NoMemory>
+    requires row { 1 ≤ rows }
+    requires rows { rows ≤ 262143 }
+    ensures clock { IfOk result (λ r. length r.0.openings.items ≡ 1) }
+    ensures hub { IfOk result (λ r. IsSeatOf r.0 r.1) }
+    ensures pass { IfOk result (λ r. IsSeatOf r.0 r.2) }
+    ensures other { IfOk result (λ r. IsSeatOf r.0 r.3) }
+    ensures follower { IfOk result (λ r. IsSeatOf r.0 r.4) }
+    ensures owner { IfOk result (λ r. r.2.view.owner ≡ Port 1) }
+    ensures order { IfOk result (λ r. HasOrder (seen_log r.2.view 0) 1 1) }
+    ensures ordered { IfOk result (λ r. IsOrderedBy r.1.view 1 1 1) }
+{
+    let clock = ClockState {
+        tick: 0,
+        time: 0,
+        freq: 0,
+        drift: 0,
+    };
+    let (seats, mut hub, mut passes) = Seats::new(alloc, &[clock], rows, 2)?;
+    let Some(mut pass) = passes.take() else {
+        return Err(NoMemory);
+    };
+    let Some(other) = passes.take() else {
+        return Err(NoMemory);
+    };
+    let Some(follower) = passes.take() else {
+        return Err(NoMemory);
+    };
+    let receipt = seats.order(&mut hub, 0, 1, 1);
+    seats.meet(&mut hub, &mut pass, &NoPage);
+    Ok((seats, hub, pass, other, follower))
+}
+
+/// The port steps its clock.
+fn step(seats: &Seats, pass: &mut Pass) -> Result<Receipt, Refused>
+    requires clock { length seats.now.openings.items ≡ 1 }
+    requires pass { IsSeatOf seats.now pass.old }
+    requires owner { pass.old.view.owner ≡ Port 1 }
+    requires order { HasOrder (seen_log pass.old.view 0) 1 1 }
+    ensures pass { IsSeatOf seats.now pass.new }
+    ensures owner { pass.new.view.owner ≡ Port 1 }
+    ensures order { HasOrder (seen_log pass.new.view 0) 1 1 }
+{
+    seats.adjust(pass, PORT, 5 * SECOND, 50_000, 0)
+}
+
+/// What a port is answered where it steps its clock twice, and what the clock then reads.
+fn stepped_twice(
+    alloc: Global,
+    rows: u32,
+) -> Result<(Result<Receipt, Refused>, Result<Receipt, Refused>, Reading), NoMemory>
+    requires row { 1 ≤ rows }
+    requires rows { rows ≤ 262143 }
+{
+    let (seats, hub, mut pass, other, follower) = shared(alloc, rows)?;
+    let first = step(&seats, &mut pass);
+    let second = step(&seats, &mut pass);
+    Ok((first, second, seats.read(&mut pass, 0)))
+}
+
+#[test]
+fn a_port_steps_a_shared_clock(rt: HostRuntime) {
+    let state = ClockState {
+        tick: 5_000_000_000,
+        time: 5_000_050_000,
+        freq: 0,
+        drift: 0,
+    };
+    let reading = Reading {
+        number: 2,
+        gener: 1,
+        ctrl: 1,
+        state,
+    };
+    assert_eq!(rt;
+        stepped_twice(rt.alloc(), 2).ok(),
+        Some((
+            Ok(Receipt { number: 2 }),
+            Err(Refused::Spent { at: 2 }),
+            reading
+        ))
+    );
+}
+
+/// How often the port is given a receipt, of so many times that it steps its clock.
+fn step_often(seats: &Seats, pass: &mut Pass, times: u32) -> u32
+    requires clock { length seats.now.openings.items ≡ 1 }
+    requires pass { IsSeatOf seats.now pass.old }
+    requires owner { pass.old.view.owner ≡ Port 1 }
+    requires order { HasOrder (seen_log pass.old.view 0) 1 1 }
+    ensures pass { IsSeatOf seats.now pass.new }
+    ensures count { result ≤ times }
+{
+    let mut receipts: u32 = 0;
+    for turn in 0..times {
+        if step(seats, pass).is_ok() {
+            receipts += 1;
+        }
+    }
+    receipts
+}
+
+/// The hub takes the clock from port 1 and gives it to port 2.
+fn hand_over(seats: &Seats, hub: &mut HubSeat) -> (Receipt, Receipt)
+    requires clock { length seats.now.openings.items ≡ 1 }
+    requires hub { IsSeatOf seats.now hub.old }
+    requires ordered { IsOrderedBy hub.old.view 1 1 1 }
+    ensures hub { IsSeatOf seats.now hub.new }
+{
+    let revoked = seats.order(hub, 0, 2, 0);
+    let granted = seats.order(hub, 0, 2, 2);
+    (revoked, granted)
+}
+
+/// Two threads: the port steps its clock 1,000 times on the one, and the hub's seat meets another
+/// pass as often on the other.
+fn steps_and_meets<R: Threads + Sync>(rt: &R, alloc: Global) -> Result<(u32, Reading), NoMemory> {
+    let (seats, mut hub, mut pass, mut other, mut follower) = shared(alloc, 2000)?;
+    let (receipts, met) = join(
+        rt,
+        || step_often(&seats, &mut pass, 1000),
+        || meet_often(&seats, &mut hub, &mut other, 1000),
+    );
+    Ok((receipts, seats.read(&mut follower, 0)))
+}
+
+/// The hub's seat meets a pass so often.
+fn meet_often(seats: &Seats, hub: &mut HubSeat, pass: &mut Pass, times: u32) -> u32
+    requires hub { IsSeatOf seats.now hub.old }
+    requires pass { IsSeatOf seats.now pass.old }
+    ensures hub { IsSeatOf seats.now hub.new }
+    ensures pass { IsSeatOf seats.now pass.new }
+{
+    for turn in 0..times {
+        seats.meet(hub, pass, &NoPage);
+    }
+    times
+}
+
+#[test]
+fn a_port_steps_its_clock_while_the_hub_meets(rt: HostRuntime) {
+    match steps_and_meets(&rt, rt.alloc()) {
+        Ok((receipts, reading)) => {
+            assert_eq!(rt; receipts, 1000);
+            assert_eq!(rt; reading.number, 1001);
+        }
+        Err(NoMemory) => assert_eq!(rt; 0, 1),
+    }
+}
+
+/// What the port saw that steps its clock until it is refused, or 1,000 times: the number of its last
+/// receipt, and the refusal.
+fn step_until_refused(seats: &Seats, pass: &mut Pass) -> (u32, Option<Refused>)
+    requires clock { length seats.now.openings.items ≡ 1 }
+    requires pass { IsSeatOf seats.now pass.old }
+    requires owner { pass.old.view.owner ≡ Port 1 }
+    requires order { HasOrder (seen_log pass.old.view 0) 1 1 }
+{
+    let mut last: u32 = 0;
+    for turn in 0..1000u32 {
+        match step(seats, pass) {
+            Ok(receipt) => last = receipt.number,
+            Err(refused) => return (last, Some(refused)),
+        }
+    }
+    (last, None)
+}
+
+/// Two threads: the port steps its clock while the hub gives the clock to another.
+fn handed_over<R: Threads + Sync>(
+    rt: &R,
+    alloc: Global,
+) -> Result<((u32, Option<Refused>), (Receipt, Receipt)), NoMemory> {
+    let (seats, mut hub, mut pass, other, follower) = shared(alloc, 2000)?;
+    Ok(join(
+        rt,
+        || step_until_refused(&seats, &mut pass),
+        || hand_over(&seats, &mut hub),
+    ))
+}
+
+#[test]
+fn handover(rt: HostRuntime) {
+    match handed_over(&rt, rt.alloc()) {
+        Ok(((last, refused), (revoked, granted))) => {
+            assert!(rt; last < revoked.number);
+            assert!(rt; revoked.number < granted.number);
+            match refused {
+                None => {}
+                Some(Refused::Superseded { newer, at }) => {
+                    assert_eq!(rt; newer, 2);
+                    assert!(rt; revoked.number <= at);
+                }
+                Some(Refused::Spent { .. }) => assert_eq!(rt; 0, 1),
+            }
+        }
+        Err(NoMemory) => assert_eq!(rt; 0, 1),
+    }
 }

@@ -1,0 +1,5 @@
+pub mod SeatLog
+pub mod Story
+pub mod SeatView
+pub mod SeatRule
+pub mod SeatStep

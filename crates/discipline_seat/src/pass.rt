@@ -1,0 +1,100 @@
+ghost use Rattle.std.specs.Prelude.{◌≡◌, ◌++◌, ◌∷◌, ◌<◌, [], length};
+ghost use Rattle.discipline_seat.specs.SeatValue.{IsFirst};
+
+use crate::steps::Place;
+use std::alloc::Global;
+use std::marker::Model;
+
+/// The seat of a port or of a clock's follower, which nobody else steps with. Contracts see its table
+/// and its view: what it has seen of each clock's log, and its story.
+#[derive(Drop)]
+pub struct Pass {
+    pub(crate) seat: Place,
+}
+
+impl Model for Pass {
+    ghost use Rattle.discipline_seat.specs.Rule.SeatLog.{pass_owner};
+    ghost use Rattle.discipline_seat.specs.Rule.Story.{GrewWithoutPages};
+    ghost use Rattle.discipline_seat.specs.Rule.SeatView.{IsTruthful};
+    ghost use Rattle.std.specs.Prelude.{◌≡◌, [], length};
+    ghost use Rattle.discipline_seat.specs.SeatValue.{SeatValue};
+
+    ghost Value = { SeatValue };
+
+    ghost view = { λ p. record { table = p.seat.table_id; view = p.seat.me.0 } };
+
+    ghost invariant = { λ p.
+        (p.seat.me.1 ≡ []) × (length p.seat.me.0.seen ≡ length p.seat.me.0.openings)
+        × (p.seat.me.0.owner ≡ pass_owner p.seat.me.0.ports p.seat.me.0.number)
+        × GrewWithoutPages p.seat.me.0.stories.told p.seat.me.0.stories.story
+        × IsTruthful p.seat.me.0 };
+}
+
+/// The hub's seat, with the last stamp of each clock, so that an order is one addition. Contracts see
+/// its table and its view: what it has seen of each clock's log, and the story that it was told of
+/// each pass.
+#[derive(Drop)]
+pub struct HubSeat {
+    pub(crate) seat: Place,
+    pub(crate) stamps: Vec<u64>,
+}
+
+impl Model for HubSeat {
+    ghost use Rattle.std.specs.Prelude.{◌≡◌, [], length};
+    ghost use Rattle.discipline_seat.specs.SeatValue.{SeatValue};
+    ghost use Rattle.discipline_seat.specs.declared.view.Owner.TheVariants.{Hub};
+    ghost use Rattle.std.specs.Prelude.{ℕ, ◌<◌, slice_index};
+    ghost use Rattle.discipline_seat.specs.Rule.SeatView.{seen_log};
+    ghost use Rattle.discipline_seat.specs.Rule.SeatLog.{ctrl_after, stamp_number};
+
+    ghost Value = { SeatValue };
+
+    ghost view = { λ p. record { table = p.seat.table_id; view = p.seat.me.0 } };
+
+    ghost invariant = { λ p.
+        (p.seat.me.1 ≡ []) × (length p.seat.me.0.seen ≡ length p.seat.me.0.openings)
+        × (p.seat.me.0.owner ≡ Hub) × (length p.stamps.items ≡ length p.seat.me.0.openings)
+        × ((clock : ℕ) → clock < length p.stamps.items →
+        (slice_index p.stamps.items clock ≡ stamp_number (seen_log p.seat.me.0 clock))
+        × (ctrl_after (seen_log p.seat.me.0 clock) < 256)) };
+}
+
+/// Passes that nobody took so far. Contracts see them, and how many were made.
+#[derive(Drop)]
+pub struct Passes {
+    pub(crate) passes: Vec<Pass>,
+    pub(crate) made: usize,
+}
+
+impl Model for Passes {
+    ghost use Rattle.std.specs.Prelude.{◌≤◌, vec_capacity};
+    ghost use Rattle.discipline_seat.specs.SeatValue.{PassesLeft};
+
+    ghost Value = { PassesLeft };
+
+    ghost view = { λ p. record { passes = p.passes.items; made = p.made } };
+
+    ghost invariant = { λ p. p.made ≤ vec_capacity p.passes };
+}
+
+impl Passes {
+    /// The first pass that is left; None where none is. Does not allocate.
+    pub fn take(&mut self) -> Option<Pass>
+        ensures first { IsFirst self.old.passes result self.new.passes }
+        ensures made { self.new.made ≡ self.old.made }
+    {
+        if self.passes.is_empty() {
+            None
+        } else {
+            Some(self.passes.remove(0))
+        }
+    }
+
+    /// Puts a pass at the end. Fewer passes are there than were made. Does not allocate.
+    pub fn put(&mut self, pass: Pass)
+        requires room { length self.old.passes < self.old.made }
+        ensures { self.new ≡ record self.old { passes = self.old.passes ++ pass ∷ [] } }
+    {
+        self.passes.push_reserved(pass);
+    }
+}
