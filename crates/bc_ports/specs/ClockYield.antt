@@ -16,7 +16,7 @@ use Rattle.bc_history.specs.Phases.Step.{at_moment, last_measure}
 use Rattle.bc_history.specs.Phases.EntryEffects.{moves_from, changed_parent, frames_at}
 use Rattle.bc_history.specs.Phases.State.{Core}
 use Rattle.bc_history.specs.Phases.HubPort.{HubPort, TickMeasure}
-use Rattle.bc_ports.specs.PortYield.{IsTime}
+use Rattle.bc_history.specs.Phases.Inputs.{IsTime}
 use Rattle.bc_ports.specs.Representation.{CoreRepresents, ClockRepresents}
 use Rattle.bc_ports.specs.declared.boundary_clock.BoundaryClock.{BoundaryClock}
 use Rattle.bc_ports.specs.declared.hub_port.input.PortOutcome.{PortOutcome}

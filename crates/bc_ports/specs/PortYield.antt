@@ -1,7 +1,6 @@
 -- What a port makes of its input.
-use Rattle.std.specs.Prelude.{◌≡◌, ℕ, ℤ, pos, ◌≤ℤ◌, List, [], ◌++◌, map, true, false, Option, Some, None, Result, Ok, Err, if◌then◌else◌}
+use Rattle.std.specs.Prelude.{◌≡◌, ℕ, ℤ, List, [], ◌++◌, map, true, false, Option, Some, None, Result, Ok, Err, if◌then◌else◌}
 use Rattle.ptp_base.specs.declared.identity.PortId.{PortId}
-use Rattle.ptp_base.specs.declared.time.TheConstants.{TIME_MAX}
 use Rattle.ptp_profile.specs.declared.message.Message.{Message}
 use Rattle.ptp_profile.specs.declared.message.Reject.{Reject}
 use Rattle.ptp_profile.specs.declared.message.Body.{Body}
@@ -23,10 +22,6 @@ use Rattle.bc_ports.specs.Representation.{PortRepresents}
 use Rattle.bc_ports.specs.declared.hub_port.HubPort.{HubPort as KeptPort}
 use Rattle.bc_ports.specs.declared.hub_port.frame.FrameOutcome.{FrameOutcome}
 use Rattle.bc_ports.specs.declared.hub_port.input.PortOutcome.{PortOutcome}
-
--- a time that a clock reads
-abbrev pub IsTime : ℤ → Type 0
-IsTime t = (pos 0 ≤ℤ t) × (t ≤ℤ TIME_MAX)
 
 -- a message that is no Announce
 abbrev pub BearsTime : Body → Type 0

@@ -1,7 +1,14 @@
 -- A hub: its scenario, its history and the clocks' logs; and what an event adds to it.
-use Rattle.std.specs.Prelude.{◌≡◌, ◌≤◌, true, List, [], ◌∷◌, length, reverse, is_some, Option, None}
+use Rattle.std.specs.Prelude.{◌≡◌, ℕ, ◌≤◌, true, List, [], ◌∷◌, length, reverse, is_some, All, IfSome, Option, None, Result, Ok, Err}
+use Rattle.model_clock.specs.Clock.{clock_at}
 use Rattle.ptp_profile.specs.declared.seats.LogEntry.{LogEntry}
-use Rattle.ptp_profile.specs.Roles.SeatLogs.{AreLawful, no_logs, with_orders}
+use Rattle.ptp_profile.specs.declared.seats.Reading.{Reading}
+use Rattle.ptp_profile.specs.declared.seats.Receipt.{Receipt}
+use Rattle.ptp_profile.specs.declared.seats.Refused.{Refused}
+use Rattle.ptp_profile.specs.Roles.SeatLogs.{AreLawful, log_at, no_logs, whole_reading, with_log_entry, with_orders}
+use Rattle.ptp_profile.specs.declared.seats.Held.{Held}
+use Rattle.ptp_profile.specs.declared.timing.Measure.{Measure}
+use Rattle.bc_history.specs.declared.entry.Effects.{Effects}
 use Rattle.bc_history.specs.declared.entry.Entry.{Entry}
 use Rattle.bc_history.specs.declared.entry.Input.{Input}
 use Rattle.bc_history.specs.declared.entry.Input.TheVariants.{Down}
@@ -9,11 +16,13 @@ use Rattle.bc_history.specs.declared.entry.Seen.{Seen}
 use Rattle.bc_history.specs.declared.scenario.Scenario.{Scenario}
 use Rattle.bc_history.specs.Phases.EntryEffects.{entry_after}
 use Rattle.bc_history.specs.Run.History.{IsHistory}
-use Rattle.bc_history.specs.Phases.Inputs.{port_of}
+use Rattle.bc_history.specs.Phases.Inputs.{IsReadTime, IsTime, port_of}
 use Rattle.bc_history.specs.Scenario.ScenarioRules.{IsScenario}
 use Rattle.bc_history.specs.Phases.Step.{state_of}
 use Rattle.hub_core.specs.HubParts.{PartsRepresent}
 use Rattle.hub_core.specs.PortReading.{input_seen}
+use Rattle.hub_core.specs.declared.adjust.PlainRefused.{PlainRefused}
+use Rattle.hub_core.specs.declared.adjust.PlainRefused.TheVariants.{NoMemory as Lacks, Refused as Is_refused}
 use Rattle.hub_core.specs.declared.hub.Hub.TheInside.{Inside}
 
 -- entries and logs have the newest first; the logs are by rising clock
@@ -53,6 +62,21 @@ reading_at h input = input_seen h.scenario h.logs input
 abbrev pub AreLawfulLogs : HubState → Type 0
 AreLawfulLogs h = AreLawful (state_of h.scenario h.entries).roles.orders h.logs
 
+-- a clock of a hub after all entries of its log, with the stamp in force
+abbrev pub clock_reading : HubState → ℕ → Reading
+clock_reading h clock =
+    whole_reading (clock_at h.scenario.clocks clock) (log_at h.logs clock)
+
+-- the hub once a change was taken: it is the newest entry of its clock's log
+abbrev pub with_change : HubState → ℕ → LogEntry → HubState
+with_change h clock change = record h { logs = with_log_entry h.logs clock change }
+
+-- what an exchange is answered, where there is memory for it
+abbrev pub IsAnswerOf : Result Receipt Refused → Result Receipt PlainRefused → Type 0
+IsAnswerOf due (Ok receipt) = due ≡ Ok receipt
+IsAnswerOf due (Err (Is_refused refused)) = due ≡ Err refused
+IsAnswerOf due (Err Lacks) = Unit {0}
+
 -- what stands in the place of an entry while it is made
 abbrev pub draft_entry : Entry
 draft_entry = record {
@@ -68,10 +92,16 @@ draft_entry = record {
 abbrev pub history_of : Inside → List Entry
 history_of i = reverse i.entries
 
+-- what an event measured, if anything, bears a time that a clock read
+abbrev pub IsMeasuredTime : Effects → Type 0
+IsMeasuredTime effects =
+    IfSome effects.measure (λ (m : Measure × Held). IsTime m.0.local)
+
 -- what always holds of a hub
 pub record IsHub (i : Inside) : Type 0 where
   pub rules : IsScenario i.scenario.value
   pub history : IsHistory i.scenario.value (history_of i)
+  pub times : All IsReadTime (history_of i)
   pub machine : PartsRepresent i.scenario.value i.machine (state_of i.scenario.value (history_of i))
   pub gener : i.machine.roles.generation.gener ≤ length i.entries
   pub asked : i.asked ≡ (state_of i.scenario.value (history_of i)).queries

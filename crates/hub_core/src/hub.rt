@@ -1,14 +1,15 @@
-ghost use Rattle.std.specs.Prelude.{◌≡◌, ◌↔◌, length, reverse, Err, IfOk, OnOk, OnErr};
+ghost use Rattle.std.specs.Prelude.{◌≡◌, ◌↔◌, length, reverse, All, Err, IfOk, OnOk, OnErr};
 ghost use Rattle.std.specs.Option.{option_and_then};
 ghost use Rattle.ptp_base.specs.declared.limits.TheConstants.{ENTRIES_MAX};
 ghost use Rattle.ptp_profile.specs.Roles.SeatLogs.{logs_from};
 ghost use Rattle.ptp_profile.specs.Port.PortTimers.{due_of};
 ghost use Rattle.bc_history.specs.Run.History.{IsHistory};
-ghost use Rattle.bc_history.specs.Phases.Inputs.{port_at};
+ghost use Rattle.bc_history.specs.Phases.Inputs.{port_at, IsReadTime};
+ghost use Rattle.bc_history.specs.Scenario.ScenarioRules.{IsScenario};
 ghost use Rattle.bc_history.specs.Run.NextInputs.{IsDue};
 ghost use Rattle.bc_history.specs.Phases.HubPort.{HubPort};
 ghost use Rattle.bc_history.specs.Phases.Step.{state_of};
-ghost use Rattle.hub_core.specs.HubView.{AreLawfulLogs, HubState, IsPortInput, draft_entry, entry_by, newest_seen, hub_at_opening, reading_at, with_entry};
+ghost use Rattle.hub_core.specs.HubView.{AreLawfulLogs, HubState, IsMeasuredTime, IsPortInput, draft_entry, entry_by, newest_seen, hub_at_opening, reading_at, with_entry};
 
 use crate::effect_copies::trimmed_entry;
 use crate::effect_rooms::{EffectCopies, EffectRooms};
@@ -48,7 +49,7 @@ impl From<NoMemory> for HubError {
 pub struct Hub {
     alloc: Global,
     scenario: Snapshot<Scenario>,
-    machine: HubParts,
+    pub(crate) machine: HubParts,
     entries: Entries,
     asked: u32,
 }
@@ -91,6 +92,7 @@ impl Hub {
         ensures reading { OnOk result (newest_seen self.new.entries ≡ reading_at self.old input) }
         ensures effects { IfOk result (λ effects. effects
             ≡ (entry_by self.old input (newest_seen self.new.entries)).effects) }
+        ensures measured { IfOk result IsMeasuredTime }
         ensures same { OnErr result (self.new ≡ self.old) }
     {
         if self.entries.len() >= ENTRIES_MAX as usize {
@@ -129,12 +131,22 @@ impl Hub {
         self.asked
     }
 
-    /// Lends the history, the oldest entry first: each entry was due after those before it, and has the
-    /// moment and the effects that follow. Does not allocate.
-    pub fn entries(&self) -> &Entries
-        ensures entries { result.now ≡ reverse self.now.entries }
+    /// Says what always holds of a hub: its scenario keeps the rules; its entries are a history of the
+    /// scenario, and read times; its logs are lawful, one for each clock. It changes nothing: who
+    /// calls it is told so.
+    pub fn rules(&self)
+        ensures scenario { IsScenario self.now.scenario }
         ensures history { IsHistory self.now.scenario self.now.entries }
+        ensures times { All IsReadTime self.now.entries }
         ensures lawful { AreLawfulLogs self.now }
+        ensures logs { length self.now.logs ≡ length self.now.scenario.clocks }
+    {
+        let _ = self.machine.roles.clocks();
+    }
+
+    /// Lends the history, the oldest entry first. Does not allocate.
+    pub fn entries(&self) -> &Entries
+        ensures { result.now ≡ reverse self.now.entries }
     {
         &self.entries
     }

@@ -3,6 +3,7 @@
 //! each clock. `Hub` keeps the history, whose entries tell all of that, and the clocks' logs.
 #![tactic(auto)]
 
+mod adjust;
 mod effect_copies;
 mod effect_rooms;
 mod effects;
@@ -11,6 +12,7 @@ mod hub_parts;
 mod opening;
 mod own_input;
 
+pub use adjust::PlainRefused;
 pub use bc_history::{
     Answers, AskError, Effects, Entries, Entry, Input, Logs, Moved, Moves, Outcome, RoleOrders,
     Scenario, Seen, Sends, Sent, Told,

@@ -2,9 +2,10 @@ ghost use Rattle.std.specs.Prelude.{◌≡◌, ◌≢◌, ℕ, ◌≤◌, List, 
 ghost use Rattle.ptp_profile.specs.Best.ForeignMasters.{fate_of_hearing};
 ghost use Rattle.ptp_profile.specs.Wire.MessageFormat.{IsSpelled};
 ghost use Rattle.bc_history.specs.Phases.PortPhase.{announcement_of, frame_fate, with_frame, frame_measure};
+ghost use Rattle.bc_history.specs.Phases.Inputs.{IsTime};
 ghost use Rattle.bc_history.specs.Phases.HubPort.{HubPort as Model};
 ghost use Rattle.bc_ports.specs.Representation.{PortRepresents, IsSamePort};
-ghost use Rattle.bc_ports.specs.PortYield.{response_frames, BearsTime, IsTime, MessageYields};
+ghost use Rattle.bc_ports.specs.PortYield.{response_frames, BearsTime, MessageYields};
 
 use crate::hub_port::HubPort;
 use bc_history::EventContext;

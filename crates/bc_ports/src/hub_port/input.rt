@@ -3,9 +3,10 @@ ghost use Rattle.std.specs.Prelude.{◌≡◌, ℕ, ◌≤◌, List, Some, None}
 ghost use Rattle.bc_history.specs.declared.scenario.Options.{Options};
 ghost use Rattle.bc_history.specs.Phases.PortPhase.{after_cause, after_report, is_report_counted, report_event, timer_event};
 ghost use Rattle.bc_history.specs.Phases.DecisionPhase.{is_kept};
+ghost use Rattle.bc_history.specs.Phases.Inputs.{IsTime};
 ghost use Rattle.bc_history.specs.Phases.HubPort.{HubPort as Model};
 ghost use Rattle.bc_ports.specs.Representation.{PortRepresents, IsSamePort, IsClockOf};
-ghost use Rattle.bc_ports.specs.PortYield.{PortYields, IsTime, sender_of};
+ghost use Rattle.bc_ports.specs.PortYield.{PortYields, sender_of};
 
 use crate::hub_port::HubPort;
 use bc_history::{EventContext, Outcome, PortHappening, PortInput};

@@ -1,11 +1,18 @@
 -- A hub before and after an event.
-use Rattle.std.proofs.Common.{◌≡◌, ℕ, zero, suc, ◌+◌, ◌-◌, ◌<◌, ◌≤◌, List, [], ◌∷◌, ◌++◌, length, reverse, refl, sym, ap, subst, ◌∙◌, arith, Option, Some, length-append}
-use Rattle.std.specs.Prelude.{slice_get, slice_set, is_some, option_and_then}
+use Rattle.std.proofs.Common.{Bool, true, false, cond, None, option_map, ◌≡◌, ℕ, zero, suc, ◌+◌, ◌-◌, ◌<◌, ◌≤◌, List, [], ◌∷◌, ◌++◌, length, reverse, refl, sym, ap, subst, ◌∙◌, arith, Option, Some, length-append}
+use Rattle.std.specs.Prelude.{slice_get, slice_set, is_some, option_and_then, ℤ, ◌+ℤ◌, All, IfSome, OnErr, OnOk, Result, Ok, Err}
+use Rattle.std.proofs.lemmas.Int.{ints}
 use Rattle.std.proofs.lemmas.List.{length-reverse}
+use Rattle.std.proofs.lemmas.List.Elements.{All-cons, All-nil}
+use Rattle.model_clock.specs.declared.state.ClockState.{ClockState}
+use Rattle.model_clock.specs.Clock.{clock_at, held_time, reading, time_gained}
+use Rattle.ptp_base.specs.declared.port_conf.PortConf.{PortConf}
 use Rattle.discipline_seat.proofs.lemmas.ReversalLemmas.{reverse_push}
 use Rattle.ptp_base.specs.declared.limits.TheConstants.{ENTRIES_MAX}
 use Rattle.ptp_profile.specs.declared.seats.LogEntry.{LogEntry}
-use Rattle.ptp_profile.specs.Roles.SeatLogs.{with_orders}
+use Rattle.ptp_profile.specs.declared.seats.Receipt.{Receipt}
+use Rattle.ptp_profile.specs.declared.seats.Refused.{Refused}
+use Rattle.ptp_profile.specs.Roles.SeatLogs.{log_at, whole_reading, with_orders}
 use Rattle.ptp_profile.specs.Port.PortTimers.{due_of}
 use Rattle.bc_history.specs.declared.entry.Entry.{Entry}
 use Rattle.bc_history.specs.declared.entry.Input.{Input}
@@ -15,8 +22,11 @@ use Rattle.bc_history.specs.declared.port_input.PortHappening.TheVariants.{Frame
 use Rattle.bc_history.specs.declared.port_input.PortInput.{PortInput}
 use Rattle.bc_history.specs.declared.scenario.Scenario.{Scenario}
 use Rattle.bc_history.specs.Phases.EntryEffects.{entry_after}
-use Rattle.bc_history.specs.Run.History.{Follows, IsHistory}
-use Rattle.bc_history.specs.Phases.Inputs.{history_input, input_with, is_read, port_at, port_input}
+use Rattle.bc_history.specs.Run.History.{Continues, Follows, IsHistory}
+use Rattle.bc_history.proofs.lemmas.ArrivalLemmas.{measures-read}
+use Rattle.ptp_profile.specs.declared.seats.Held.{Held}
+use Rattle.ptp_profile.specs.declared.timing.Measure.{Measure}
+use Rattle.bc_history.specs.Phases.Inputs.{history_input, input_with, is_read, port_at, port_input, port_of, tick_of, IsReadTime, IsTime}
 use Rattle.bc_history.specs.Run.NextInputs.{IsDue}
 use Rattle.bc_history.specs.Phases.OpeningState.{opening}
 use Rattle.bc_history.specs.Scenario.ScenarioRules.{IsScenario}
@@ -25,8 +35,9 @@ use Rattle.bc_history.specs.Phases.HubPort.{HubPort}
 use Rattle.bc_history.specs.Phases.Step.{queries_after, state_of, step}
 use Rattle.bc_ports.specs.declared.hub_port.HubPort.{HubPort as KeptPort}
 use Rattle.bc_ports.proofs.lemmas.RepresentationLemmas.{PortsRepresent-some}
-use Rattle.bc_roles.specs.RolesView.{RolesView}
-use Rattle.hub_core.specs.HubView.{HubState, IsHub, entry_by, history_of, newest_seen, reading_at, with_entry}
+use Rattle.discipline_seat.specs.SeatsView.{Seats, with_entry as with_change_entry}
+use Rattle.bc_roles.specs.RolesView.{RolesRepresent, RolesView}
+use Rattle.hub_core.specs.HubView.{HubState, IsHub, IsMeasuredTime, entry_by, history_of, newest_seen, reading_at, with_entry}
 use Rattle.hub_core.specs.HubParts.{PartsYield, PartsRepresent}
 use Rattle.hub_core.specs.PortReading.{input_seen}
 use Rattle.hub_core.specs.declared.hub.Hub.TheInside.{Inside}
@@ -46,6 +57,7 @@ hub-opened i none rules machine gener asked =
     record {
       rules = rules;
       history = subst H empty (record { few = omega arith; continues = tt });
+      times = subst (λ (es : List Entry). All IsReadTime es) empty (All-nil IsReadTime);
       machine = subst M empty machine;
       gener = omega (arith, gener);
       asked = subst Q empty asked;
@@ -98,12 +110,17 @@ hub-same i j was scenario entries asked machine gener =
     record {
       rules = subst S (sym scenario) was.rules;
       history = subst H' history (subst H (sym scenario) was.history);
+      times = subst (λ (es : List Entry). All IsReadTime es) history was.times;
       machine = subst M' history (subst M (sym scenario) machine);
       gener = omega (arith, was.gener, gener, long);
       asked = subst Q' history (subst Q (sym scenario) (asked ∙ was.asked));
     }
 
 -- ---- one entry more
+
+-- a time is held within what a clock counts
+held-time : (z : ℤ) → IsTime (held_time z)
+held-time z = grind (arith, ints)
 
 seen-after : (s : Scenario) (before : List Entry) (input : Input) (seen : Option Seen) → (entry_after s before input seen).seen ≡ seen
 unfolding entry_after
@@ -132,6 +149,27 @@ drafted (x ∷ es) draft e = ap (λ (xs : List Entry). x ∷ xs) (drafted es dra
 -- the input as one of a port is due as it is one of the history
 pub own-due : (s : Scenario) (h : State) (input : Input) (p : PortInput) → port_input input ≡ Some p → IsDue s h input → IsDue s h (history_input p)
 own-due s h input p own due = subst (λ (x : Input). IsDue s h x) (sym (history-again input p own)) due
+
+-- a clock reads times
+reading-time : (clock : ClockState) (tick : ℕ) → IsTime (reading clock tick)
+reading-time clock tick = held-time (clock.time +ℤ time_gained (clock.drift +ℤ clock.freq) (tick - clock.tick))
+
+-- what comes with an input is a time, where it comes with a reading and its port is there
+seen-time : (b : Bool) (conf : Option PortConf) (read : PortConf → Seen) → ((c : PortConf) → IsTime (read c).value)
+    → IfSome (cond b (option_map read conf) None) (λ (seen : Seen). IsTime seen.value)
+seen-time true None read times = tt
+seen-time true (Some c) read times = times c
+seen-time false conf read times = tt
+
+-- what an entry read is a time
+entry-time : (s : Scenario) (before : List Entry) (logs : List (List LogEntry)) (p : PortInput) (entry : Entry)
+    → entry ≡ entry_after s before (history_input p) (input_seen s logs (history_input p)) → IsReadTime entry
+entry-time s before logs p entry is =
+    let input = history_input p in
+    let reading_is : entry.seen ≡ input_seen s logs input = ap (λ (e : Entry). e.seen) is ∙ seen-after s before input (input_seen s logs input) in
+    subst (λ (x : Option Seen). IfSome x (λ (seen : Seen). IsTime seen.value)) (sym reading_is)
+    (seen-time (is_read input) (option_and_then (port_at s.ports) (port_of input)) _
+    (λ c. reading-time (whole_reading (clock_at s.clocks c.clock) (log_at logs c.clock)).state (tick_of input)))
 
 -- a hub that served one more input
 pub record HasTakenOne (i j : Inside) (input : Input) (p : PortInput) (logs : List (List LogEntry)) (entry : Entry) : Type 0 where
@@ -167,10 +205,27 @@ hub-next i j input p logs entry was few due is =
     record {
       rules = subst (λ (x : Scenario). IsScenario x) (sym is.scenario) was.rules;
       history = move (λ x es. IsHistory x es) (record { few = omega (arith, few, long); continues = (follows, was.history.continues) });
+      times = move (λ x es. All IsReadTime es) (All-cons IsReadTime entry before (entry-time s before logs p entry is.served.entry_is) was.times);
       machine = move (λ x es. PartsRepresent x j.machine (state_of x es)) is.served.machine;
       gener = omega (arith, is.gener, was.gener, more);
       asked = move (λ x es. j.asked ≡ (state_of x es).queries) (is.asked ∙ (was.asked ∙ sym asked));
     }
+
+-- a fact of what may be there
+if_there : (o : Option (Measure × Held)) (P : Measure × Held → Type 0) → ((m : Measure × Held) → o ≡ Some m → P m) → IfSome o P
+if_there None P each = tt
+if_there (Some m) P each = each m refl
+
+-- what the event measured bears a time that a clock read
+pub measured-time : (i j : Inside) (input : Input) (p : PortInput) (logs : List (List LogEntry)) (entry : Entry) → HasTakenOne i j input p logs entry
+    → IsHub j → IsMeasuredTime entry.effects
+measured-time i j input p logs entry is now =
+    let history = history-one i j input p logs entry is in
+    let s = j.scenario.value in
+    let continues = subst (λ (es : List Entry). Continues s es) history now.history.continues in
+    let times = subst (λ (es : List Entry). All IsReadTime es) history now.times in
+    if_there entry.effects.measure (λ (m : Measure × Held). IsTime m.0.local)
+    (λ m there. measures-read s (history_of i) entry m continues times there)
 
 -- ---- what contracts see of it
 
@@ -220,3 +275,36 @@ pub due-some : (s : Scenario) (m : HubParts) (h : State) (number : ℕ) (q : Kep
 due-some s m h number q is some found =
     let stands = PortsRepresent-some s.options.delay_filter_length m.core.moment m.core.ports.items h.core.ports (number - 1) q is.core.core.ports found in
     ap due_of stands.2.engine.timers ∙ sym (ap (option_and_then (λ (g : HubPort). due_of g.port.timers)) (sym (port-index h.core.ports number some) ∙ stands.1))
+
+-- ---- exchanges
+
+-- what an exchange leaves of the roles: all but the logs and the places for them
+record IsSameButLogs (old new : RolesView) : Type 0 where
+  rows : new.seats.rows ≡ old.seats.rows
+  openings : new.seats.openings ≡ old.seats.openings
+
+-- whether the change was taken or not
+exchanged : (old new : RolesView) (result : Result Receipt Refused) (clock : ℕ) (change : LogEntry)
+    → OnOk result (new.seats ≡ with_change_entry old.seats clock change) → OnErr result (new ≡ old) → IsSameButLogs old new
+exchanged old new (Ok receipt) clock change taken same =
+    record { rows = ap (λ (x : Seats). x.rows) taken; openings = ap (λ (x : Seats). x.openings) taken }
+exchanged old new (Err refused) clock change taken same =
+    record { rows = ap (λ (r : RolesView). r.seats.rows) same; openings = ap (λ (r : RolesView). r.seats.openings) same }
+
+-- the parts with the roles after an exchange represent the same state
+pub machine-exchanged : (s : Scenario) (m : HubParts) (h : State) (r : RolesView) (result : Result Receipt Refused) (clock : ℕ) (change : LogEntry)
+    → PartsRepresent s m h → RolesRepresent r h.roles → r ≡ record m.roles { seats = r.seats }
+    → OnOk result (r.seats ≡ with_change_entry m.roles.seats clock change) → OnErr result (r ≡ m.roles) → PartsRepresent s (with_roles m r) h
+machine-exchanged s m h r result clock change was roles kept taken same =
+    let table = exchanged m.roles r result clock change taken same in
+    record {
+      clocks = was.clocks;
+      core = was.core;
+      sound = was.sound;
+      ports = was.ports;
+      roles = roles;
+      rows = table.rows ∙ was.rows;
+      openings = table.openings ∙ was.openings;
+      stamps = ap (λ (x : RolesView). length x.stamps) kept ∙ was.stamps;
+      places = was.places;
+    }

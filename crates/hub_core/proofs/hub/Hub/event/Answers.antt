@@ -3,9 +3,9 @@ use Rattle.std.specs.Prelude.{slice_set}
 use Rattle.bc_history.specs.declared.entry.Entry.{Entry}
 use Rattle.bc_history.specs.Run.NextInputs.{IsDue}
 use Rattle.bc_history.specs.Phases.Step.{state_of}
-use Rattle.hub_core.specs.HubView.{HubState, entry_by, history_of, newest_seen, reading_at, with_entry}
+use Rattle.hub_core.specs.HubView.{HubState, IsMeasuredTime, entry_by, history_of, newest_seen, reading_at, with_entry}
 use Rattle.hub_core.specs.declared.hub.Hub.TheInside.{Inside}
-use Rattle.hub_core.proofs.lemmas.HubLemmas.{HasTakenOne, IsRoomier, drafted, entry-taken, gener-roomier, hub-next, hub-same, hub-taken, logs-roomier, machine-roomier, own-due, reading-taken}
+use Rattle.hub_core.proofs.lemmas.HubLemmas.{HasTakenOne, IsRoomier, drafted, entry-taken, gener-roomier, hub-next, hub-same, hub-taken, logs-roomier, machine-roomier, measured-time, own-due, reading-taken}
 use Rattle.hub_core.proofs.hub.Hub.event.Goals as goal
 
 pub invariant_of-self-in_err-push : goal.invariant_of-self-in_err-push
@@ -79,3 +79,9 @@ returns-clause-effects c =
     c.of-effects.ensures
     ∙ ap (λ (e : Entry). e.effects) (entry-taken c.self.inside (after c) c.args.input c.port_input.result c.reserve.new.self.seats.logs c.serve-entry.result (taken c))
     ∙ ap (λ (h : HubState). (entry_by h c.args.input (newest_seen (history_of (after c)))).effects) c.self.view_is
+
+pub returns-clause-measured : goal.returns-clause-measured
+returns-clause-measured c =
+    subst IsMeasuredTime (sym c.of-effects.ensures)
+    (measured-time c.self.inside (after c) c.args.input c.port_input.result c.reserve.new.self.seats.logs c.serve-entry.result (taken c)
+    (invariant_of-self-2 c))

@@ -20,7 +20,7 @@ use Rattle.bc_history.specs.Phases.HubPort.{HubPort}
 use Rattle.bc_history.specs.Phases.Step.{held_of, state_of}
 use Rattle.bc_history.proofs.lemmas.PortIdentityLemmas.{ports-length}
 use Rattle.bc_ports.specs.ClockYield.{EventYields, core_at, core_decided}
-use Rattle.bc_ports.specs.PortYield.{IsTime}
+use Rattle.bc_history.specs.Phases.Inputs.{IsTime}
 use Rattle.hub_core.specs.EffectParts.{effects_with, sent_by}
 use Rattle.hub_core.specs.HubParts.{IsAt, PartsRepresent, clocks_by}
 use Rattle.hub_core.specs.EffectRooms.{AreFew, IsShort}
