@@ -1,0 +1,72 @@
+-- An actor, beside the hub and in a World.
+use Rattle.std.specs.Prelude.{◌≡◌, ℕ, Bool, true, nat_le, List, ◌∷◌, Option, Some}
+use Rattle.bc_history.specs.declared.entry.Entry.{Entry}
+use Rattle.bc_history.specs.declared.entry.Who.{Who}
+use Rattle.bc_history.specs.declared.entry.Who.TheVariants.{Port, Follower, Queries}
+use Rattle.bc_history.specs.declared.scenario.Scenario.{Scenario}
+use Rattle.bc_history.specs.Phases.Step.{state_of}
+use Rattle.bc_history.specs.Phases.Inputs.{holds}
+use Rattle.bc_history.specs.Run.Actors.{entries_of, is_by}
+use Rattle.bc_history.specs.Run.World.{Place, Of_port, Of_follower, Of_queries, World, due_by_end, place_of, with_place}
+use Rattle.hub_core.specs.HubView.{HubState}
+
+-- an actor: its scenario, who it is, its own entries, the newest first, and where it is in its job
+pub record ActorState : Type 0 where
+  pub scenario : Scenario
+  pub who : Who
+  pub entries : List Entry
+  pub place : Place
+
+-- a port acts so far; followers and queries do not yet
+abbrev pub IsPort : Who → Type 0
+IsPort (Port p) = Unit {0}
+IsPort (Follower c) = ⊥
+IsPort Queries = ⊥
+
+-- a place is one of the actor's kind
+abbrev pub IsPlaceOf : Who → Place → Type 0
+IsPlaceOf (Port p) (Of_port place) = Unit {0}
+IsPlaceOf (Follower c) (Of_follower place) = Unit {0}
+IsPlaceOf Queries Of_queries = Unit {0}
+IsPlaceOf who place = ⊥
+
+-- the hub's entries of the actor are its own, in one scenario
+pub record IsLevel (hub : HubState) (a : ActorState) : Type 0 where
+  pub scenario : a.scenario ≡ hub.scenario
+  pub entries : entries_of a.who hub.entries ≡ a.entries
+
+-- the tick of the actor's next step, where that is due before the run ends
+abbrev pub due_tick : HubState → ActorState → Option ℕ
+due_tick hub a = due_by_end hub.scenario (state_of hub.scenario hub.entries) a.who a.place
+
+-- hub and actor stand in the World
+pub record IsIn (w : World) (hub : HubState) (a : ActorState) : Type 0 where
+  pub entries : w.entries ≡ hub.entries
+  pub logs : w.logs ≡ hub.logs
+  pub place : place_of w a.who ≡ Some a.place
+
+-- the World with another hub and another state of the actor
+abbrev pub world_with : World → HubState → ActorState → World
+world_with w hub a =
+    with_place a.who a.place (record w { entries = hub.entries; logs = hub.logs })
+
+-- it has a step that is due up to a tick, and before the run ends
+abbrev pub is_ready : ℕ → HubState → ActorState → Bool
+is_ready until hub a = holds (λ tick. nat_le tick until) (due_tick hub a)
+
+-- what never changes of an actor
+pub record IsSameActor (old new : ActorState) : Type 0 where
+  pub scenario : new.scenario ≡ old.scenario
+  pub who : new.who ≡ old.who
+
+-- the hub has one entry more, of this actor
+pub record AddsOwn (who : Who) (old new : HubState) : Type 0 where
+  pub entry : Entry
+  pub more : new.entries ≡ entry ∷ old.entries
+  pub own : is_by who entry ≡ true
+  pub scenario : new.scenario ≡ old.scenario
+
+-- the hub's scenario and history are as before
+pub record IsSameHistory (old new : HubState) : Type 0 where
+  pub scenario : new.scenario ≡ old.scenario
+  pub entries : new.entries ≡ old.entries

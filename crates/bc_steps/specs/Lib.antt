@@ -1,0 +1,5 @@
+pub mod RecordQueue
+pub mod PortSamples
+pub mod ExchangeBounds
+pub mod ActorView
+pub mod ActorInvariant
