@@ -1,9 +1,2 @@
-pub mod DueLoopLemmas
-pub mod RecordCursorLemmas
-pub mod PortCursorLemmas
-pub mod stage
-pub mod TurnYieldLemmas
-pub mod TurnLemmas
-pub mod LawfulLogsLemmas
 pub mod CallLemmas
 pub mod EndCompletenessLemmas

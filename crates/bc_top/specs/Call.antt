@@ -9,7 +9,7 @@ use Rattle.bc_history.specs.Run.World.{IsWorld, IsEnd, Events}
 use Rattle.bc_history.specs.Run.Transcript.{text_of}
 use Rattle.bc_top.specs.ReadToEnd.{Reads}
 use Rattle.bc_top.specs.WriteAll.{Writes}
-use Rattle.bc_top.specs.Stage.SupportedScenarios.{IsSupported, IsUnsupported}
+use Rattle.bc_replay.specs.Stage.SupportedScenarios.{IsSupported, IsUnsupported}
 use Rattle.bc_top.specs.declared.outcome.NoTranscript.{NoTranscript}
 use Rattle.bc_top.specs.declared.outcome.NoTranscript.TheVariants.{Refused, Events as Too_many, NoMemory}
 

@@ -10,7 +10,7 @@ use Rattle.bc_history.specs.declared.entry.Run.{Run}
 use Rattle.bc_history.specs.Scenario.LineFaults.{Stands, IsFirstFault}
 use Rattle.bc_history.specs.Run.World.{IsWorld, IsEnd, Events as Too_many}
 use Rattle.bc_top.specs.CommandWords.{IsReplay}
-use Rattle.bc_top.specs.Stage.SupportedScenarios.{IsSupported, IsUnsupported}
+use Rattle.bc_replay.specs.Stage.SupportedScenarios.{IsSupported, IsUnsupported}
 use Rattle.bc_top.specs.Call.{Call}
 use Rattle.bc_top.specs.declared.outcome.End.{End}
 use Rattle.bc_top.specs.declared.outcome.End.TheVariants.{Done, Refused, Events, NoMemory, TooLong}

@@ -2,11 +2,6 @@ pub mod CommandWords
 pub mod ExitStatus
 pub mod ReadToEnd
 pub mod WriteAll
-pub mod RecordCursor
-pub mod Stage
-pub mod DueLoop
-pub mod ReplayError
-pub mod LawfulLogs
 pub mod Call
 pub mod EndCauses
 pub mod EndCompleteness

@@ -1,6 +1,6 @@
 ghost use Rattle.std.specs.Prelude.{◌≡◌, ℕ, ◌≤◌, ◌++◌, List, length, map, IfOk, IfErr, string_bytes};
 ghost use Rattle.bc_history.specs.Scenario.LineFaults.{Stands};
-ghost use Rattle.bc_top.specs.Stage.SupportedScenarios.{IsSupported};
+ghost use Rattle.bc_replay.specs.Stage.SupportedScenarios.{IsSupported};
 ghost use Rattle.ptp_base.specs.declared.limits.TheConstants.{TEXT_MAX};
 ghost use Rattle.bc_top.specs.ReadToEnd.{reads_of};
 ghost use Rattle.bc_top.specs.WriteAll.{writes_of};
@@ -10,12 +10,11 @@ ghost use Rattle.bc_top.specs.EndCompleteness.{IsComplete};
 
 use crate::outcome::{End, NoTranscript};
 use crate::read::{ReadError, read_to_end};
-use crate::replay::{ReplayError, replay};
-use crate::stage::supported::is_supported;
 use crate::words::is_replay;
 use crate::write::write_all;
 use bc_config::{Refusal, scenario};
 use bc_history::Scenario;
+use bc_replay::{ReplayError, is_supported, replay};
 use ptp_base::Octets;
 use std::alloc::Global;
 use text_io::{Reason, Sink, Source};

@@ -8,8 +8,8 @@ use Rattle.bc_history.specs.declared.entry.Run.{Run}
 use Rattle.bc_history.specs.Scenario.LineFaults.{Stands, IsFirstFault, fault_at}
 use Rattle.bc_history.specs.Run.World.{IsWorld, IsEnd, Finished, Events}
 use Rattle.bc_history.proofs.lemmas.EndLemmas.{one_end}
-use Rattle.bc_top.specs.Stage.SupportedScenarios.{IsSupported, IsUnsupported}
-use Rattle.bc_top.proofs.lemmas.stage.SupportedScenarioLemmas.{never_both}
+use Rattle.bc_replay.specs.Stage.SupportedScenarios.{IsSupported, IsUnsupported}
+use Rattle.bc_replay.proofs.lemmas.stage.SupportedScenarioLemmas.{never_both}
 
 pub one_scenario : (text : List ℕ) (s t : Scenario) → Stands text s → Stands text t → s ≡ t
 one_scenario text s t a b = a.said ∙ sym b.said

@@ -1,0 +1,215 @@
+-- The steps of an actor, and what it means that the hub took none.
+use Rattle.std.proofs.Common.{◌≡◌, ℕ, suc, ◌<◌, ◌≤◌, Bool, true, false, cond, leb, refl, sym, ap, ◌∙◌, subst, arith, inl, inr, length, Option, Some, None, option_and_then, le-leb}
+use Rattle.std.proofs.lemmas.Bool.{cases_lt, lt-leb}
+use Rattle.std.specs.Prelude.{option_map, slice_get, IfErr, IsErrAnd, Result, Ok, Err}
+use Rattle.ptp_base.specs.declared.limits.TheConstants.{ENTRIES_MAX}
+use Rattle.bc_history.specs.declared.entry.Input.{Input}
+use Rattle.bc_history.specs.declared.entry.Who.{Who}
+use Rattle.bc_history.specs.declared.entry.Who.TheVariants.{Port, Follower, Queries}
+use Rattle.bc_history.specs.declared.scenario.Scenario.{Scenario}
+use Rattle.bc_history.specs.declared.scenario.Asked.{Asked}
+use Rattle.bc_history.specs.Phases.HubPort.{HubPort}
+use Rattle.bc_history.specs.Phases.Inputs.{holds, port_at, tick_of}
+use Rattle.bc_history.specs.Phases.State.{State}
+use Rattle.bc_history.specs.Phases.State.{Follower as Following}
+use Rattle.bc_history.specs.Phases.Step.{state_of}
+use Rattle.bc_history.specs.Run.NextInputs.{next_input, query_input, turn_tick}
+use Rattle.bc_history.specs.Run.FollowerPlace.{FollowerPlace, Turns_next, Reads_theirs, Reads_own, Exchanges_own, Samples}
+use Rattle.bc_history.specs.declared.place.PortPlace.{PortPlace}
+use Rattle.bc_history.specs.declared.place.PortPlace.TheVariants.{Waits, Exchanges, Reports}
+use Rattle.bc_history.specs.Run.World.{End, Ended, Event, Events, Going, Of_follower, Of_port, Of_queries, Place, Step, World, due_by_end, follower_due, follower_step, free_steps, is_due, is_inside, place_due, place_of, port_due, port_event, port_reading, port_step, query_step, step_from, step_of, take_step}
+use Rattle.hub_core.specs.HubView.{HubState}
+use Rattle.hub_core.specs.declared.hub.HubError.{HubError}
+use Rattle.hub_core.specs.declared.hub.HubError.TheVariants.{NoMemory as Hub_no_memory, Events as Hub_events}
+use Rattle.bc_steps.specs.ActorView.{ActorState, AddsOwn, IsIn, IsLevel, IsPlaceOf, IsSameActor, due_tick, is_ready, world_with}
+use Rattle.bc_replay.specs.ActorSteps.{IsStepError, StepLeadsTo, StepYields}
+use Rattle.bc_replay.specs.declared.run.ReplayError.{ReplayError}
+use Rattle.bc_replay.specs.ReplayError.{by_hub}
+
+-- a step that is an event of the hub
+abbrev IsEvent : Option Step → Type 0
+IsEvent step = (next : World) × (step ≡ Some (Event next))
+
+event-of : (next : World) → IsEvent (Some (Event next))
+event-of next = (next, refl)
+
+-- an event where a test passes
+event-if : (b : Bool) (next : World) → b ≡ true → IsEvent (cond b (Some (Event next)) None)
+event-if true next is = event-of next
+event-if false next is = cc
+
+-- ---- a place from which a step is due
+
+-- a tick that is due before the run ends is the one of the place
+due-place : (s : Scenario) (h : State) (who : Who) (place : Place) (due : Option ℕ) (tick : ℕ) → place_due s h who place ≡ due
+    → option_and_then (λ (t : ℕ). cond (is_due s t) (Some t) None) due ≡ Some tick
+    → (place_due s h who place ≡ Some tick) × (is_due s tick ≡ true)
+due-place s h who place None tick is at = cc
+due-place s h who place (Some t) tick is at = by_test (is_due s t) refl at
+  where
+    by_test : (b : Bool) → is_due s t ≡ b → cond b (Some t) None ≡ Some tick → (place_due s h who place ≡ Some tick) × (is_due s tick ≡ true)
+    by_test true due same = let tick_is : t ≡ tick = cc in (is ∙ ap Some tick_is, subst (λ (u : ℕ). is_due s u ≡ true) tick_is due)
+    by_test false due same = cc
+
+pub due_by_end-is : (s : Scenario) (h : State) (who : Who) (place : Place) (tick : ℕ) → due_by_end s h who place ≡ Some tick → (place_due s h who place ≡ Some tick) × (is_due s tick ≡ true)
+due_by_end-is s h who place tick at = due-place s h who place (place_due s h who place) tick refl at
+
+-- what is due before the run ends is ready by its end
+pub due-ready : (hub : HubState) (a : ActorState) (tick until : ℕ) → due_tick hub a ≡ Some tick → until ≡ hub.scenario.options.duration → is_ready until hub a ≡ true
+due-ready hub a tick until due until_is =
+    let in_time = (due_by_end-is hub.scenario (state_of hub.scenario hub.entries) a.who a.place tick due).1 in
+    rw (due, until_is) in_time
+
+ready-by : (until : ℕ) (due : Option ℕ) → holds (λ (t : ℕ). leb t until) due ≡ true → (tick : ℕ) × (due ≡ Some tick)
+ready-by until None ready = cc
+ready-by until (Some tick) ready = (tick, refl)
+
+-- what is ready is due
+pub ready-due : (until : ℕ) (hub : HubState) (a : ActorState) → is_ready until hub a ≡ true → (tick : ℕ) × (due_tick hub a ≡ Some tick)
+ready-due until hub a ready = ready-by until (due_tick hub a) ready
+
+-- ---- from a place that is inside the step is an event
+
+port-event : (s : Scenario) (w : World) (p tick : ℕ) (h : HubPort) (place : PortPlace) → port_due s h place ≡ Some tick → is_due s tick ≡ true → is_inside (Of_port place) ≡ true → IsEvent (port_step s w p h place)
+port-event s w p tick h Waits due in_time inside = by_input (next_input s h) due
+  where
+    by_input : (input : Option Input) → option_map tick_of input ≡ Some tick
+        → IsEvent (option_and_then (λ (i : Input). cond (is_due s (tick_of i)) (Some (Event (port_event s w p i (port_reading s w h i)))) None) input)
+    by_input None none = cc
+    by_input (Some i) is =
+        let same : tick_of i ≡ tick = cc in
+        let now : is_due s (tick_of i) ≡ true = subst (λ (t : ℕ). is_due s t ≡ true) (sym same) in_time in
+        event-if (is_due s (tick_of i)) _ now
+port-event s w p tick h (Exchanges at held action) due in_time inside = cc
+port-event s w p tick h (Reports at gener action outcome) due in_time inside = event-of _
+
+follower-event : (s : Scenario) (w : World) (c tick : ℕ) (f : Following) (place : FollowerPlace) → follower_due s f place ≡ tick → is_due s tick ≡ true → is_inside (Of_follower place) ≡ true → IsEvent (follower_step s w c f place)
+follower-event s w c tick f Turns_next due in_time inside =
+    let now : is_due s (turn_tick s f) ≡ true = subst (λ (t : ℕ). is_due s t ≡ true) (sym due) in_time in
+    event-if (is_due s (turn_tick s f)) _ now
+follower-event s w c tick f (Reads_theirs at lead) due in_time inside = cc
+follower-event s w c tick f (Reads_own at lead theirs) due in_time inside = cc
+follower-event s w c tick f (Exchanges_own at lead theirs own action) due in_time inside = cc
+follower-event s w c tick f (Samples at lead theirs own action outcome) due in_time inside = event-of _
+
+query-event : (s : Scenario) (w : World) (tick : ℕ) (asked : Option Asked) → option_map (λ (q : Asked). q.tick) asked ≡ Some tick → is_due s tick ≡ true → IsEvent (query_step s w asked)
+query-event s w tick None due in_time = cc
+query-event s w tick (Some q) due in_time =
+    let same : q.tick ≡ tick = cc in
+    let now : is_due s q.tick ≡ true = subst (λ (t : ℕ). is_due s t ≡ true) (sym same) in_time in
+    event-if (is_due s q.tick) _ now
+
+port-there : (s : Scenario) (w : World) (p tick : ℕ) (place : PortPlace) (port : Option HubPort) → option_and_then (λ (h : HubPort). port_due s h place) port ≡ Some tick → is_due s tick ≡ true
+    → is_inside (Of_port place) ≡ true → IsEvent (option_and_then (λ (h : HubPort). port_step s w p h place) port)
+port-there s w p tick place None due in_time inside = cc
+port-there s w p tick place (Some h) due in_time inside = port-event s w p tick h place due in_time inside
+
+follower-there : (s : Scenario) (w : World) (c tick : ℕ) (place : FollowerPlace) (follower : Option Following) → option_map (λ (f : Following). follower_due s f place) follower ≡ Some tick → is_due s tick ≡ true
+    → is_inside (Of_follower place) ≡ true → IsEvent (option_and_then (λ (f : Following). follower_step s w c f place) follower)
+follower-there s w c tick place None due in_time inside = cc
+follower-there s w c tick place (Some f) due in_time inside =
+    let same : follower_due s f place ≡ tick = cc in follower-event s w c tick f place same in_time inside
+
+-- whoever it is
+pub due-event : (s : Scenario) (w : World) (who : Who) (place : Place) (tick : ℕ) → place_due s (state_of s w.entries) who place ≡ Some tick → is_due s tick ≡ true → is_inside place ≡ true
+    → IsEvent (step_from s w who place)
+due-event s w (Port p) (Of_port place) tick due in_time inside = port-there s w p tick place (port_at (state_of s w.entries).core.ports p) due in_time inside
+due-event s w (Port p) (Of_follower place) tick due in_time inside = cc
+due-event s w (Port p) Of_queries tick due in_time inside = cc
+due-event s w (Follower c) (Of_port place) tick due in_time inside = cc
+due-event s w (Follower c) (Of_follower place) tick due in_time inside = follower-there s w c tick place (slice_get (state_of s w.entries).followers c) due in_time inside
+due-event s w (Follower c) Of_queries tick due in_time inside = cc
+due-event s w Queries (Of_port place) tick due in_time inside = cc
+due-event s w Queries (Of_follower place) tick due in_time inside = cc
+due-event s w Queries Of_queries tick due in_time inside = query-event s w tick (query_input s (state_of s w.entries)) due in_time
+
+-- ---- where a step leads
+
+-- an event where there is room
+event-goes : (w next : World) (end : End) (step : Option Step) → step ≡ Some (Event next) → length w.entries < ENTRIES_MAX → take_step w end step ≡ Going next
+event-goes w next end step is room = let not_full : leb ENTRIES_MAX (length w.entries) ≡ false = lt-leb ENTRIES_MAX (length w.entries) room in rw (is, not_full) refl
+
+-- ---- one event too many
+
+-- an event where ENTRIES_MAX entries are held
+full-event : (w : World) (end : End) (step : Option Step) → IsEvent step → ENTRIES_MAX ≤ length w.entries → take_step w end step ≡ Ended Events
+full-event w end step (next, is) many = let full : leb ENTRIES_MAX (length w.entries) ≡ true = le-leb ENTRIES_MAX (length w.entries) many in rw (is, full) refl
+
+-- the step of an actor at a place
+step-at : (s : Scenario) (w : World) (who : Who) (place : Place) → place_of w who ≡ Some place → step_of s w who ≡ step_from s w who place
+step-at s w who place there = ap (λ (at : Option Place). option_and_then (λ (x : Place). step_from s w who x) at) there
+
+pub full-leads : (until : ℕ) (hub : HubState) (a : ActorState) → is_ready until hub a ≡ true → is_inside a.place ≡ true → length hub.entries ≡ ENTRIES_MAX → StepLeadsTo hub a (λ w. Ended Events)
+full-leads until hub a ready inside full = λ w end stands.
+    let (tick, due) = ready-due until hub a ready in
+    let s = hub.scenario in
+    let at = due_by_end-is s (state_of s hub.entries) a.who a.place tick due in
+    let here : place_due s (state_of s w.entries) a.who a.place ≡ Some tick = ap (λ es. place_due s (state_of s es) a.who a.place) stands.entries ∙ at.0 in
+    let event = due-event s w a.who a.place tick here at.1 inside in
+    let many : length w.entries ≡ ENTRIES_MAX = ap length stands.entries ∙ full in
+    ap (take_step w end) (step-at s w a.who a.place stands.place) ∙ full-event w end (step_from s w a.who a.place) event (omega (arith, many))
+
+-- what it means that the hub took no event
+pub refused-step : (until : ℕ) (hub : HubState) (a : ActorState) (error : HubError) → is_ready until hub a ≡ true → is_inside a.place ≡ true
+    → (error ≡ Hub_events → length hub.entries ≡ ENTRIES_MAX) → IsStepError hub a (by_hub error)
+refused-step until hub a Hub_no_memory ready inside full = tt
+refused-step until hub a Hub_events ready inside full = full-leads until hub a ready inside (full refl)
+
+pub refused-result : {T : Type 0} (until : ℕ) (hub : HubState) (a : ActorState) (error : HubError) (result : Result T ReplayError) → is_ready until hub a ≡ true → is_inside a.place ≡ true
+    → (error ≡ Hub_events → length hub.entries ≡ ENTRIES_MAX) → IsErrAnd result (λ e. e ≡ by_hub error) → IfErr result (IsStepError hub a)
+refused-result until hub a error (Ok x) ready inside full is = tt
+refused-result until hub a error (Err e) ready inside full is = rw is (refused-step until hub a error ready inside full)
+
+-- ---- what a step makes
+
+-- behind an event there are at most three readings and exchanges
+few-free : (place : Place) → free_steps place ≤ 3
+few-free (Of_port Waits) = omega arith
+few-free (Of_port (Exchanges tick held action)) = omega arith
+few-free (Of_port (Reports tick gener action outcome)) = omega arith
+few-free (Of_follower Turns_next) = omega arith
+few-free (Of_follower (Reads_theirs tick lead)) = omega arith
+few-free (Of_follower (Reads_own tick lead theirs)) = omega arith
+few-free (Of_follower (Exchanges_own tick lead theirs own action)) = omega arith
+few-free (Of_follower (Samples tick lead theirs own action outcome)) = omega arith
+few-free Of_queries = omega arith
+
+-- what an actor tells of its event
+pub record IsEventOf (until : ℕ) (hub : HubState) (a : ActorState) (new : HubState) (b : ActorState) (result : Result Bool HubError) : Type 0 where
+  pub ready : is_ready until hub a ≡ true
+  pub few : length hub.entries ≤ ENTRIES_MAX
+  pub step : (w : World) → result ≡ Ok true → IsIn w hub a → step_of hub.scenario w a.who ≡ Some (Event (world_with w new b))
+  pub waits : result ≡ Ok false → is_ready until hub a ≡ false
+  pub events : length hub.entries ≡ ENTRIES_MAX → result ≡ Err Hub_events
+  pub entry : result ≡ Ok true → AddsOwn a.who hub new
+  pub level : IsLevel new b
+  pub actor : IsSameActor a b
+  pub kind : IsPlaceOf b.who b.place
+
+event-made : (until : ℕ) (hub new : HubState) (a b : ActorState) (result : Result Bool HubError) → IsEventOf until hub a new b result → result ≡ Ok true → StepYields hub a new b
+event-made until hub new a b result made is =
+    let adds = made.entry is in
+    let not_full : ¬ (length hub.entries ≡ ENTRIES_MAX) = λ full. let both : Ok true ≡ Err Hub_events = sym is ∙ made.events full in cc in
+    let room : length hub.entries < ENTRIES_MAX = below (length hub.entries) made.few not_full in
+    let more : length new.entries ≡ suc (length hub.entries) = ap length adds.more in
+    let free = few-free b.place in
+    record {
+      going = λ w end stands. event-goes w (world_with w new b) end (step_of hub.scenario w a.who) (made.step w is stands) (subst (λ es. length es < ENTRIES_MAX) (sym stands.entries) room);
+      history = inl adds;
+      few = omega (arith, more, room);
+      level = made.level;
+      actor = made.actor;
+      kind = made.kind;
+      fewer = omega (arith, more, room, free);
+    }
+  where
+    below : (n : ℕ) → n ≤ ENTRIES_MAX → ¬ (n ≡ ENTRIES_MAX) → n < ENTRIES_MAX
+    below n few not = elim (cases_lt n ENTRIES_MAX) [
+      | inl lt ↦ lt
+      | inr full ↦ absurd (not (omega (arith, few, full)))
+    ]
+
+-- an event that an actor took
+pub event-yields : (until : ℕ) (hub new : HubState) (a b : ActorState) (result : Result Bool HubError) (taken : Bool) → IsEventOf until hub a new b result → result ≡ Ok taken → StepYields hub a new b
+event-yields until hub new a b result true made is = event-made until hub new a b result made is
+event-yields until hub new a b result false made is = let both : true ≡ false = sym made.ready ∙ made.waits is in cc

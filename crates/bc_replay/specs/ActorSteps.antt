@@ -1,0 +1,31 @@
+-- What one step of an actor makes of it and of its hub.
+use Rattle.std.specs.Prelude.{◌≡◌, ◌⊎◌, ◌<◌, ◌≤◌, length}
+use Rattle.ptp_base.specs.declared.limits.TheConstants.{ENTRIES_MAX}
+use Rattle.bc_history.specs.Run.World.{End, Ended, Events as Too_many, Going, Status, World, free_steps, step_of, take_step}
+use Rattle.hub_core.specs.HubView.{HubState}
+use Rattle.bc_steps.specs.ActorView.{ActorState, AddsOwn, IsIn, IsLevel, IsPlaceOf, IsSameActor, IsSameHistory, world_with}
+use Rattle.bc_replay.specs.ActorLoop.{steps_left}
+use Rattle.bc_replay.specs.declared.run.ReplayError.{ReplayError}
+use Rattle.bc_replay.specs.declared.run.ReplayError.TheVariants.{NoMemory, Events}
+
+-- in each World in which hub and actor stand the actor's next step leads there, however the scenario
+-- would end without one
+abbrev pub StepLeadsTo : HubState → ActorState → (World → Status) → Type 0
+StepLeadsTo hub a next =
+    (w : World) (end : End) → IsIn w hub a
+    → take_step w end (step_of hub.scenario w a.who) ≡ next w
+
+-- a step of an actor makes this of both
+pub record StepYields (hub : HubState) (a : ActorState) (new : HubState) (b : ActorState) : Type 0 where
+  pub going : StepLeadsTo hub a (λ w. Going (world_with w new b))
+  pub history : AddsOwn a.who hub new ⊎ IsSameHistory hub new
+  pub few : length new.entries ≤ ENTRIES_MAX
+  pub level : IsLevel new b
+  pub actor : IsSameActor a b
+  pub kind : IsPlaceOf b.who b.place
+  pub fewer : steps_left new (free_steps b.place) < steps_left hub (free_steps a.place)
+
+-- why an actor took no step; want of memory has no cause that is told
+abbrev pub IsStepError : HubState → ActorState → ReplayError → Type 0
+IsStepError hub a NoMemory = Unit {0}
+IsStepError hub a Events = StepLeadsTo hub a (λ w. Ended Too_many)

@@ -1,0 +1,6 @@
+pub mod Stage
+pub mod ActorTurns
+pub mod ActorLoop
+pub mod ActorSteps
+pub mod ReplayError
+pub mod LawfulLogs

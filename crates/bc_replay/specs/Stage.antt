@@ -1,0 +1,3 @@
+-- What holds only of scenarios that are supported so far. It goes when every scenario is served.
+pub mod QuietScenarios
+pub mod SupportedScenarios

@@ -1,7 +1,0 @@
--- What holds only of scenarios that are supported so far. It goes when every scenario is served.
-pub mod FirstCandidateLemmas
-pub mod PortsOnlyLemmas
-pub mod QuietTurnLemmas
-pub mod QuietRunLemmas
-pub mod SupportedScenarioLemmas
-pub mod NoMeasureLemmas
