@@ -2,10 +2,10 @@
 ghost use Rattle.std.specs.Prelude.{◌≡◌, length};
 
 use bc_history::Scenario;
-use bc_top::End;
+use bc_top::{End, offline};
 use std::alloc::Global;
 use std::test::Fail;
-use text_io::{MemSource, Reason};
+use text_io::{MemSink, MemSource, Reason, SureSource};
 
 /// How a call ends at a scenario that is not served.
 pub const REFUSED: End = End::Refused {
@@ -25,6 +25,24 @@ pub fn words(alloc: Global, line: &str) -> Result<Vec<String>, Fail> {
         words.push(String::from_str(alloc, word)?)?;
     }
     Ok(words)
+}
+
+/// The whole transcript of a text.
+pub fn transcript(alloc: Global, text: &str) -> Result<Vec<u8>, Fail> {
+    let (end, out) = replayed(alloc, text)?;
+    match end {
+        End::Done => Ok(out),
+        _ => Ok(Vec::new(alloc)),
+    }
+}
+
+/// How a replay ends, and what it wrote.
+pub fn replayed(alloc: Global, text: &str) -> Result<(End, Vec<u8>), Fail> {
+    let replay = words(alloc, "replay")?;
+    let mut from = SureSource::new(Vec::from_slice(alloc, text.as_bytes())?);
+    let mut to = MemSink::new(alloc);
+    let end = offline(alloc, &replay, &mut from, &mut to);
+    Ok((end, Vec::from_slice(alloc, to.octets())?))
 }
 
 /// The number of the ports of a scenario.

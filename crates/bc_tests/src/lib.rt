@@ -5,7 +5,12 @@
 mod call;
 #[cfg(test)]
 mod end_tests;
+pub mod handover;
+#[cfg(test)]
+mod handover_tests;
 #[cfg(test)]
 mod replay_tests;
+#[cfg(test)]
+mod steering_tests;
 #[cfg(test)]
 mod worked_tests;

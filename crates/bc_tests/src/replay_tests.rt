@@ -8,10 +8,6 @@ use std::alloc::Global;
 use std::test::Fail;
 use text_io::{MemSink, Reason, SureSink, SureSource};
 
-/// A Sync of domain 0.
-const SYNC: &str =
-    "0002002c000000000000000000000000000000000a0b0c0d0e0f010200010001000000000000000000000000";
-
 /// How a call ends at a text. What it writes is dropped.
 fn end_at(alloc: Global, text: &[u8]) -> Result<End, Fail> {
     let replay = words(alloc, "replay")?;
@@ -84,23 +80,14 @@ fn with_frame(alloc: Global, frame: &str) -> Result<String, Fail> {
     )?)
 }
 
+/// A Sync, a Follow_Up, a Delay_Resp, a Delay_Req, an Announce, a Sync of another domain, and a Sync
+/// that is cut off.
 #[test]
-fn frames_that_give_the_time_are_not_built(rt: HostRuntime) -> Result<(), Fail> {
+fn each_frame_is_built(rt: HostRuntime) -> Result<(), Fail> {
     for frame in [
-        SYNC,
+        "0002002c000000000000000000000000000000000a0b0c0d0e0f010200010001000000000000000000000000",
         "0802002c000000000000000000000000000000000a0b0c0d0e0f010200010001020000000000000000000000",
         "09020036000000000000000000000000000000000a0b0c0d0e0f0102000100010300000000000000000000000a0b0c0d0e0f01020001",
-    ] {
-        let text = with_frame(rt.alloc(), frame)?;
-        assert_eq!(rt; end_at(rt.alloc(), text.as_bytes())?, REFUSED);
-    }
-    Ok(())
-}
-
-/// A Delay_Req, an Announce, a Sync of another domain, and a Sync that is cut off.
-#[test]
-fn other_frames_are_built(rt: HostRuntime) -> Result<(), Fail> {
-    for frame in [
         "0102002c000000000000000000000000000000000a0b0c0d0e0f010200010001010000000000000000000000",
         "0b020040000000000000000000000000000000000a0b0c0d0e0f01020001000105000000000000000000000000250080f8feffff800a0b0c0d0e0f01020000a0",
         "0002002c010000000000000000000000000000000a0b0c0d0e0f010200010001000000000000000000000000",

@@ -1,10 +1,10 @@
 //! Worked examples of whole runs, with figures from outside: what ports do, which frames they send, and
 //! what drives each clock.
-use crate::call::words;
-use bc_top::{End, offline};
+use crate::call::{replayed, transcript};
+use bc_top::End;
 use std::alloc::Global;
 use std::test::Fail;
-use text_io::{MemSink, SureSource, lines_in, words_in};
+use text_io::{lines_in, words_in};
 
 const FIRST: &str = "000a00fffe000001";
 
@@ -30,24 +30,6 @@ fn announce(
 fn heard(alloc: Global, text: &mut String, tick: u64, port: u16, frame: &str) -> Result<(), Fail> {
     text.push_str(format!(in alloc; "{tick} {port} {frame}\n")?.as_str())?;
     Ok(())
-}
-
-/// The whole transcript of a text.
-fn transcript(alloc: Global, text: &str) -> Result<Vec<u8>, Fail> {
-    let (end, out) = replayed(alloc, text)?;
-    match end {
-        End::Done => Ok(out),
-        _ => Ok(Vec::new(alloc)),
-    }
-}
-
-/// How a replay ends, and what it wrote.
-fn replayed(alloc: Global, text: &str) -> Result<(End, Vec<u8>), Fail> {
-    let replay = words(alloc, "replay")?;
-    let mut from = SureSource::new(Vec::from_slice(alloc, text.as_bytes())?);
-    let mut to = MemSink::new(alloc);
-    let end = offline(alloc, &replay, &mut from, &mut to);
-    Ok((end, Vec::from_slice(alloc, to.octets())?))
 }
 
 /// Whether the line begins so.
