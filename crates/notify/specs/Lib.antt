@@ -1,0 +1,2 @@
+pub mod RingView
+pub mod RingCalls

@@ -1,0 +1,11 @@
+pub mod LegalTestLemmas
+pub mod RefusedRunLemmas
+pub mod SteeredRunLemmas
+pub mod FollowedRunLemmas
+pub mod CourseLemmas
+pub mod NewerOrderLemmas
+pub mod WorldLemmas
+pub mod HolderLemmas
+pub mod GrownLogLemmas
+pub mod NumberBoundLemmas
+pub mod PortExchangeLemmas

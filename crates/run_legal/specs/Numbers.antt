@@ -1,0 +1,4 @@
+pub mod Marks
+pub mod LogNumbers
+pub mod Knowledge
+pub mod GrownLogs

@@ -1,0 +1,4 @@
+pub mod Courses
+pub mod LegalRuns
+pub mod WorldInvariant
+pub mod LegalExamples
