@@ -14,3 +14,4 @@ pub mod RowStepLemmas
 pub mod ClockStateLemmas
 pub mod ControllerLemmas
 pub mod HeldOrderLemmas
+pub mod SeatEntryLemmas

@@ -4,3 +4,4 @@ pub mod Rule
 pub mod SeatCalls
 pub mod SeatValue
 pub mod HubOrders
+pub mod SeatEntries

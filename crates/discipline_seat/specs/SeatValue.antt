@@ -5,14 +5,15 @@ use Rattle.model_clock.specs.declared.state.ClockState.{ClockState}
 use Rattle.discipline_seat.specs.declared.table.Seats.{Seats}
 use Rattle.discipline_seat.specs.declared.view.View.{View}
 
--- the table it belongs to, and what it knows
+-- the table it belongs to, what it knows, and how many more entries it takes without allocating
 pub record SeatValue : Type 0 where
   pub table : TableId
   pub view : View
+  pub spare : ℕ
 
--- a value of these
+-- a value of these, without a place for entries
 abbrev pub seat_value : TableId → View → SeatValue
-seat_value table view = record { table = table; view = view }
+seat_value table view = record { table = table; view = view; spare = 0 }
 
 -- the seat is one of this table, whose clocks opened so
 pub record Belongs (table : TableId) (openings : List ClockState) (seat : SeatValue) : Type 0 where

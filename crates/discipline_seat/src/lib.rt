@@ -1,6 +1,7 @@
 //! Who holds each clock, what was ordered and changed of it, and what that makes of it.
 #![tactic(auto)]
 
+mod entries;
 mod pass;
 mod plain;
 mod seat;

@@ -1,42 +1,63 @@
-ghost use Rattle.std.specs.Prelude.{◌≡◌, ◌++◌, ◌∷◌, ◌<◌, [], length};
+ghost use Rattle.std.specs.Prelude.{◌≡◌, ◌++◌, ◌∷◌, ◌<◌, ◌≤◌, [], length, OnErr, OnOk};
 ghost use Rattle.discipline_seat.specs.SeatValue.{IsFirst};
 
+use crate::entries::Entries;
 use crate::steps::Place;
+use ptp_base::NoMemory;
 use std::alloc::Global;
 use std::marker::Model;
 
-/// The seat of a port or of a clock's follower, which nobody else steps with. Contracts see its table
-/// and its view: what it has seen of each clock's log, and its story.
+/// The seat of a port or of a clock's follower, which nobody else steps with, with the changes that it
+/// made. Contracts see its table, its view, which is what it has seen of each clock's log and its
+/// story, and for how many more changes it has places.
 #[derive(Drop)]
 pub struct Pass {
     pub(crate) seat: Place,
+    pub(crate) entries: Entries,
 }
 
 impl Model for Pass {
     ghost use Rattle.discipline_seat.specs.Rule.SeatLog.{pass_owner};
     ghost use Rattle.discipline_seat.specs.Rule.Story.{GrewWithoutPages};
     ghost use Rattle.discipline_seat.specs.Rule.SeatView.{IsTruthful};
+    ghost use Rattle.discipline_seat.specs.SeatEntries.{KeepsReceipts};
     ghost use Rattle.std.specs.Prelude.{◌≡◌, [], length};
     ghost use Rattle.discipline_seat.specs.SeatValue.{SeatValue};
 
     ghost Value = { SeatValue };
 
-    ghost view = { λ p. record { table = p.seat.table_id; view = p.seat.me.0 } };
+    ghost view = { λ p. record {
+      table = p.seat.table_id;
+      view = p.seat.me.0;
+      spare = p.entries.spare;
+    } };
 
     ghost invariant = { λ p.
         (p.seat.me.1 ≡ []) × (length p.seat.me.0.seen ≡ length p.seat.me.0.openings)
         × (p.seat.me.0.owner ≡ pass_owner p.seat.me.0.ports p.seat.me.0.number)
         × GrewWithoutPages p.seat.me.0.stories.told p.seat.me.0.stories.story
-        × IsTruthful p.seat.me.0 };
+        × IsTruthful p.seat.me.0 × KeepsReceipts p.entries.items p.seat.me.0 };
 }
 
-/// The hub's seat, with the last stamp of each clock, so that an order is one addition. Contracts see
-/// its table and its view: what it has seen of each clock's log, and the story that it was told of
-/// each pass.
+impl Pass {
+    /// Makes places for so many more changes, or leaves all as before.
+    pub fn reserve(&mut self, more: u32) -> Result<(), NoMemory>
+        ensures ok { OnOk result (more ≤ self.new.spare) }
+        ensures same { OnOk result (self.new ≡ record self.old { spare = self.new.spare }) }
+        ensures err { OnErr result (self.new ≡ self.old) }
+    {
+        self.entries.reserve(more)
+    }
+}
+
+/// The hub's seat, with the last stamp of each clock, so that an order is one addition, and the orders
+/// that it made. Contracts see its table, its view, which is what it has seen of each clock's log and
+/// the story that it was told of each pass, and for how many more orders it has places.
 #[derive(Drop)]
 pub struct HubSeat {
     pub(crate) seat: Place,
     pub(crate) stamps: Vec<u64>,
+    pub(crate) entries: Entries,
 }
 
 impl Model for HubSeat {
@@ -46,17 +67,34 @@ impl Model for HubSeat {
     ghost use Rattle.std.specs.Prelude.{ℕ, ◌<◌, slice_index};
     ghost use Rattle.discipline_seat.specs.Rule.SeatView.{seen_log};
     ghost use Rattle.discipline_seat.specs.Rule.SeatLog.{ctrl_after, stamp_number};
+    ghost use Rattle.discipline_seat.specs.SeatEntries.{KeepsOrders};
 
     ghost Value = { SeatValue };
 
-    ghost view = { λ p. record { table = p.seat.table_id; view = p.seat.me.0 } };
+    ghost view = { λ p. record {
+      table = p.seat.table_id;
+      view = p.seat.me.0;
+      spare = p.entries.spare;
+    } };
 
     ghost invariant = { λ p.
         (p.seat.me.1 ≡ []) × (length p.seat.me.0.seen ≡ length p.seat.me.0.openings)
         × (p.seat.me.0.owner ≡ Hub) × (length p.stamps.items ≡ length p.seat.me.0.openings)
         × ((clock : ℕ) → clock < length p.stamps.items →
         (slice_index p.stamps.items clock ≡ stamp_number (seen_log p.seat.me.0 clock))
-        × (ctrl_after (seen_log p.seat.me.0 clock) < 256)) };
+        × (ctrl_after (seen_log p.seat.me.0 clock) < 256))
+        × KeepsOrders p.entries.items p.seat.me.0 };
+}
+
+impl HubSeat {
+    /// Makes places for so many more orders, or leaves all as before.
+    pub fn reserve(&mut self, more: u32) -> Result<(), NoMemory>
+        ensures ok { OnOk result (more ≤ self.new.spare) }
+        ensures same { OnOk result (self.new ≡ record self.old { spare = self.new.spare }) }
+        ensures err { OnErr result (self.new ≡ self.old) }
+    {
+        self.entries.reserve(more)
+    }
 }
 
 /// Passes that nobody took so far. Contracts see them, and how many were made.

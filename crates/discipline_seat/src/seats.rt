@@ -1,4 +1,4 @@
-ghost use Rattle.std.specs.Prelude.{◌≡◌, ◌≢◌, ℕ, ◌+◌, ◌*◌, ◌<◌, ◌≤◌, ◌∷◌, ◌++◌, [], All, List, length, MatchResult, IfOk, slice_index, slice_index_or};
+ghost use Rattle.std.specs.Prelude.{◌≡◌, ◌≢◌, ℕ, ◌+◌, ◌*◌, ◌<◌, ◌≤◌, ◌∷◌, ◌++◌, [], All, List, length, MatchResult, IfOk, OnErr, OnOk, slice_index, slice_index_or};
 ghost use Rattle.ptp_base.specs.declared.limits.TheConstants.{CLOCKS_MAX, CONTROLLER_PORTS, GENERATION_MAX, ORDERS_MAX, ROWS_MAX};
 ghost use Rattle.ptp_base.specs.Floor.{IsWithin};
 ghost use Rattle.model_clock.specs.Clock.{IsClock, clock_at};
@@ -14,6 +14,7 @@ ghost use Rattle.discipline_seat.specs.declared.view.StoryItem.TheVariants.{Gave
 ghost use Rattle.discipline_seat.specs.SeatCalls.{HasSameOrders, LookYields, SawLog, EntryAdded, WasOvertaken, RefusalYields, LeavesOthers, IsWordOf, AdjustYields, MeetYields, IsNewHub, AreNewPasses, HearYields, LearnYields, RoundYields, IsPassSeat, StoryTold, adjust_item};
 ghost use Rattle.discipline_seat.specs.SeatValue.{IsSeatOf, seat_value};
 
+use crate::entries::{Entries, Numbered};
 use crate::pass::{HubSeat, Pass, Passes};
 use crate::steps::{
     Adjust, Answer, Appoint, Deal, Fetch, Hear, Learn, Look, Note, Place, Put, Said, Tell, Wanted,
@@ -59,7 +60,7 @@ impl Seats {
         let count = usize::from(ports) + clocks.len();
         let mut passes = Vec::with_capacity(alloc, count)?;
         for made in 0..count {
-            let pass = seats.deal(&mut hub);
+            let pass = seats.deal(alloc, &mut hub);
             passes.push_reserved(pass);
         }
         let passes = Passes {
@@ -101,18 +102,27 @@ impl Seats {
             rows,
             openings,
         };
-        Ok((seats, HubSeat { seat, stamps }))
+        let hub = HubSeat {
+            seat,
+            stamps,
+            entries: Entries::new(alloc),
+        };
+        Ok((seats, hub))
     }
 
     // One pass more.
-    fn deal(&self, hub: &mut HubSeat) -> Pass
+    fn deal(&self, alloc: Global, hub: &mut HubSeat) -> Pass
         requires table { IsSeatOf self.now hub.old }
         requires nothing { (c : ℕ) → seen_log hub.old.view c ≡ [] }
         ensures hub { hub.new ≡ record hub.old { view = after_split hub.old.view } }
-        ensures pass { result ≡ record hub.old { view = new_pass_view hub.old.view } }
+        ensures pass { result
+            ≡ record hub.old { view = new_pass_view hub.old.view; spare = 0 } }
     {
         let seat = self.table.shared.split_seat::<Deal>(&mut hub.seat);
-        Pass { seat }
+        Pass {
+            seat,
+            entries: Entries::new(alloc),
+        }
     }
 
     // How many clocks there are.
@@ -130,9 +140,10 @@ impl Seats {
         requires quiet { (c : ℕ) (l : SeatLog) → HasNoPages (A.says c l) }
         requires truth { (m : ℕ → SeatLog) (r : ℕ) → IsSeatLog r (m clock) →
             Extends (seen_log pass.old.view clock) (m clock) →
-            StoryAgrees m (A.says clock (m clock)) × HasNoReceipts (A.says clock (m clock))
-            × IsAnswerOfLook m (A.says clock (m clock)) }
+            StoryAgrees self.now.openings.items m (A.says clock (m clock))
+            × HasNoReceipts (A.says clock (m clock)) × IsAnswerOfLook m (A.says clock (m clock)) }
         ensures table { IsSeatOf self.now pass.new }
+        ensures spare { pass.new.spare ≡ pass.old.spare }
         ensures sees { LookYields self.now.rows A.says pass.old.view clock result pass.new.view }
     {
         unpack(
@@ -157,6 +168,7 @@ impl Seats {
         ensures state { IsClock result.state }
         ensures story { pass.new.view.stories
             ≡ with_items (GaveReading clock result ∷ []) pass.old.view.stories }
+        ensures spare { pass.new.spare ≡ pass.old.spare }
     {
         let at = self.look_for_reading(pass, clock);
         let state = self.state(pass, clock, &at);
@@ -173,6 +185,7 @@ impl Seats {
         requires table { IsSeatOf self.now pass.old }
         requires clock { clock < length self.now.openings.items }
         ensures table { IsSeatOf self.now pass.new }
+        ensures spare { pass.new.spare ≡ pass.old.spare }
         ensures sees { LookYields self.now.rows (reading_item self.now.openings.items) pass.old.view clock
             result pass.new.view }
     {
@@ -276,7 +289,8 @@ impl Seats {
     /// newer generation than the held one is in force after `at` entries; Spent where the held
     /// stamp is in force after `at` entries, which are `rows` or more. So a holder of the stamp
     /// in force is never superseded. The clock is there, the stamp's controller names the pass,
-    /// and the pass has seen the stamp's order. Does not allocate and waits for nobody.
+    /// the pass has seen the stamp's order, and its `spare` is 1 or more. A change takes one place.
+    /// Does not allocate and waits for nobody.
     pub fn adjust(
         &self,
         pass: &mut Pass,
@@ -287,6 +301,7 @@ impl Seats {
     ) -> Result<Receipt, Refused>
         requires table { IsSeatOf self.now pass.old }
         requires clock { held.clock < length self.now.openings.items }
+        requires spare { 1 ≤ pass.old.spare }
         requires somebody { held.ctrl ≢ 0 }
         requires named { owner_named held.clock held.ctrl ≡ pass.old.view.owner }
         requires ordered { HasOrder (seen_log pass.old.view held.clock) held.gener held.ctrl }
@@ -300,6 +315,8 @@ impl Seats {
         ensures story { pass.new.view.stories
             ≡ with_items (adjust_item held.clock held.gener held.ctrl tick step freq result)
             pass.old.view.stories }
+        ensures taken { OnOk result (pass.old.spare ≡ pass.new.spare + 1) }
+        ensures kept { OnErr result (pass.new.spare ≡ pass.old.spare) }
     {
         let asked = LogEntry::Change {
             gener: held.gener,
@@ -341,6 +358,7 @@ impl Seats {
     ) -> Result<u32, Word>
         requires table { IsSeatOf self.now pass.old }
         requires clock { held.clock < length self.now.openings.items }
+        requires spare { 1 ≤ pass.old.spare }
         requires somebody { held.ctrl ≢ 0 }
         requires named { owner_named held.clock held.ctrl ≡ pass.old.view.owner }
         requires gener { at.gener ≡ held.gener }
@@ -368,6 +386,8 @@ impl Seats {
             ≡ with_items
             (WasSuperseded held.clock held.gener held.ctrl tick step freq x.gener x.number ∷ [])
             pass.old.view.stories) }
+        ensures taken { OnOk result (pass.old.spare ≡ pass.new.spare + 1) }
+        ensures kept { OnErr result (pass.new.spare ≡ pass.old.spare) }
     {
         let new = Word {
             number: at.number + 1,
@@ -390,6 +410,11 @@ impl Seats {
             &change,
         );
         if found == old {
+            pass.entries.push(Numbered {
+                clock: held.clock,
+                number: at.number + 1,
+                entry: change,
+            });
             Ok(at.number + 1)
         } else {
             Err(unpack(found))
@@ -400,12 +425,13 @@ impl Seats {
     /// `CONTROLLER_PORTS`, or the clock's own follower that copies clock s, by `FOLLOWER_BASE` +
     /// s. `gener`, at most `GENERATION_MAX`, is no older than the clock's generation, and newer
     /// where somebody holds the clock; the controllers that all clocks then have are a forest;
-    /// the clock has had fewer than `ORDERS_MAX` orders. The clock is there. The receipt has the
-    /// entry's number, which is above all that the hub's seat had seen of the clock. Does not
-    /// allocate and waits for nobody.
+    /// the clock has had fewer than `ORDERS_MAX` orders. The clock is there, and the seat's `spare`
+    /// is 1 or more, of which the order takes one. The receipt has the entry's number, which is
+    /// above all that the hub's seat had seen of the clock. Does not allocate and waits for nobody.
     pub fn order(&self, hub: &mut HubSeat, clock: u8, gener: u32, ctrl: u8) -> Receipt
         requires table { IsSeatOf self.now hub.old }
         requires clock { clock < length self.now.openings.items }
+        requires spare { 1 ≤ hub.old.spare }
         requires ctrl { IsController (length self.now.openings.items) ctrl }
         requires gener { gener ≤ GENERATION_MAX }
         requires follows { MayFollow (stamp_after (seen_log hub.old.view clock)) gener }
@@ -415,6 +441,7 @@ impl Seats {
         ensures same { LeavesOthers hub.old.view clock hub.new.view }
         ensures ordered { EntryAdded hub.old.view clock (Order gener ctrl) result.number
             hub.new.view }
+        ensures spare { hub.old.spare ≡ hub.new.spare + 1 }
     {
         let number = self.appoint(hub, clock, gener, ctrl);
         Receipt { number }
@@ -424,6 +451,7 @@ impl Seats {
     fn appoint(&self, hub: &mut HubSeat, clock: u8, gener: u32, ctrl: u8) -> u32
         requires table { IsSeatOf self.now hub.old }
         requires clock { clock < length self.now.openings.items }
+        requires spare { 1 ≤ hub.old.spare }
         requires follows { MayComeNext self.now.rows (seen_log hub.old.view clock)
             (Order gener ctrl) }
         requires forest { HasNoCircle
@@ -433,6 +461,7 @@ impl Seats {
         ensures table { IsSeatOf self.now hub.new }
         ensures same { LeavesOthers hub.old.view clock hub.new.view }
         ensures made { EntryAdded hub.old.view clock (Order gener ctrl) result hub.new.view }
+        ensures spare { hub.old.spare ≡ hub.new.spare + 1 }
     {
         let old = hub.stamps[usize::from(clock)];
         let new = u64::from(gener) * 256 + u64::from(ctrl);
@@ -442,7 +471,13 @@ impl Seats {
             .shared
             .fetch_add::<Appoint>(&mut hub.seat, usize::from(clock), step);
         hub.stamps[usize::from(clock)] = new;
-        unpack(found).number + 1
+        let number = unpack(found).number + 1;
+        hub.entries.push(Numbered {
+            clock,
+            number,
+            entry: LogEntry::Order { gener, ctrl },
+        });
+        number
     }
 
     /// Lets pass and hub's seat know what the other has seen, and the hub's seat the whole story
@@ -469,6 +504,8 @@ impl Seats {
         ensures level { pass.new.view.stories.told ≡ pass.new.view.stories.story }
         ensures heard { StoryTold hub.old.view.stories pass.old.view.number pass.new.view.stories.story
             hub.new.view.stories }
+        ensures spare { pass.new.spare ≡ pass.old.spare }
+        ensures hub_spare { hub.new.spare ≡ hub.old.spare }
     {
         self.bare_round(hub, &mut pass.seat);
         self.round::<Brand, N>(hub, &mut pass.seat, page);
@@ -489,6 +526,7 @@ impl Seats {
             MeetYields (seen_log hub.old.view c) (seen_log seat.old.me.0 c)
             (seen_log hub.new.view c) (seen_log seat.new.me.0 c) }
         ensures round { RoundYields [] hub.old.view seat.old.me.0 hub.new.view seat.new.me.0 }
+        ensures hub_spare { hub.new.spare ≡ hub.old.spare }
     {
         self.round::<Brand, NoPage>(hub, seat, &NoPage);
     }
@@ -508,6 +546,7 @@ impl Seats {
             MeetYields (seen_log hub.old.view c) (seen_log seat.old.me.0 c)
             (seen_log hub.new.view c) (seen_log seat.new.me.0 c) }
         ensures round { RoundYields (page_item P.page) hub.old.view seat.old.me.0 hub.new.view seat.new.me.0 }
+        ensures hub_spare { hub.new.spare ≡ hub.old.spare }
     {
         self.tell_hub::<P, N>(hub, seat, page);
         self.tell_pass(hub, seat);
@@ -527,6 +566,7 @@ impl Seats {
         ensures told { (c : ℕ) → Extends (seen_log hub.old.view c) (seen_log hub.new.view c)
             × Extends (seen_log seat.old.me.0 c) (seen_log hub.new.view c) }
         ensures heard { HearYields hub.old.view (with_page seat.old.me.0 P.page) hub.new.view }
+        ensures hub_spare { hub.new.spare ≡ hub.old.spare }
     {
         let note = self.table.shared.split_seat::<Put<P>>(seat);
         self.table.shared.join_seat::<Hear>(&mut hub.seat, note);

@@ -1,6 +1,6 @@
 ghost use Rattle.std.specs.Prelude.{◌≡◌, ◌+◌, ◌≤◌, ◌∷◌, [], IfOk, length};
 ghost use Rattle.ptp_profile.specs.Roles.SeatLogs.{HasOrder};
-ghost use Rattle.discipline_seat.specs.declared.view.Owner.TheVariants.{Port};
+ghost use Rattle.discipline_seat.specs.declared.view.Owner.TheVariants.{Follower, Port};
 ghost use Rattle.discipline_seat.specs.Rule.SeatView.{seen_log};
 ghost use Rattle.discipline_seat.specs.SeatValue.{IsSeatOf};
 ghost use Rattle.discipline_seat.specs.HubOrders.{IsOrderedBy};
@@ -117,8 +117,8 @@ fn holders_are_refused(rt: HostRuntime) {
     assert_eq!(rt; parted(rt.alloc()).ok(), Some((1, 1)));
 }
 
-/// Seats of a clock that reads 0 at tick 0, given to port 1, which knows of it, with the passes of
-/// ports 1 and 2 and of the clock's follower.
+/// Seats of a clock that reads 0 at tick 0, given to port 1, which knows of it and has places for
+/// 1,000 changes, with the passes of ports 1 and 2 and of the clock's follower.
 fn shared(alloc: Global, rows: u32) -> Result<(Seats, HubSeat, Pass, Pass, Pass), NoMemory>
     requires row { 1 ≤ rows }
     requires rows { rows ≤ 262143 }
@@ -130,6 +130,8 @@ fn shared(alloc: Global, rows: u32) -> Result<(Seats, HubSeat, Pass, Pass, Pass)
     ensures owner { IfOk result (λ r. r.2.view.owner ≡ Port 1) }
     ensures order { IfOk result (λ r. HasOrder (seen_log r.2.view 0) 1 1) }
     ensures ordered { IfOk result (λ r. IsOrderedBy r.1.view 1 1 1) }
+    ensures hub_spare { IfOk result (λ r. 2 ≤ r.1.spare) }
+    ensures spare { IfOk result (λ r. 1000 ≤ r.2.spare) }
 {
     let clock = ClockState {
         tick: 0,
@@ -147,6 +149,8 @@ fn shared(alloc: Global, rows: u32) -> Result<(Seats, HubSeat, Pass, Pass, Pass)
     let Some(follower) = passes.take() else {
         return Err(NoMemory);
     };
+    hub.reserve(3)?;
+    pass.reserve(1000)?;
     let receipt = seats.order(&mut hub, 0, 1, 1);
     seats.meet(&mut hub, &mut pass, &NoPage);
     Ok((seats, hub, pass, other, follower))
@@ -156,9 +160,11 @@ fn shared(alloc: Global, rows: u32) -> Result<(Seats, HubSeat, Pass, Pass, Pass)
 fn step(seats: &Seats, pass: &mut Pass) -> Result<Receipt, Refused>
     requires clock { length seats.now.openings.items ≡ 1 }
     requires pass { IsSeatOf seats.now pass.old }
+    requires spare { 1 ≤ pass.old.spare }
     requires owner { pass.old.view.owner ≡ Port 1 }
     requires order { HasOrder (seen_log pass.old.view 0) 1 1 }
     ensures pass { IsSeatOf seats.now pass.new }
+    ensures spare { pass.old.spare ≤ pass.new.spare + 1 }
     ensures owner { pass.new.view.owner ≡ Port 1 }
     ensures order { HasOrder (seen_log pass.new.view 0) 1 1 }
 {
@@ -207,6 +213,7 @@ fn a_port_steps_a_shared_clock(rt: HostRuntime) {
 fn step_often(seats: &Seats, pass: &mut Pass, times: u32) -> u32
     requires clock { length seats.now.openings.items ≡ 1 }
     requires pass { IsSeatOf seats.now pass.old }
+    requires spare { times ≤ pass.old.spare }
     requires owner { pass.old.view.owner ≡ Port 1 }
     requires order { HasOrder (seen_log pass.old.view 0) 1 1 }
     ensures pass { IsSeatOf seats.now pass.new }
@@ -225,6 +232,7 @@ fn step_often(seats: &Seats, pass: &mut Pass, times: u32) -> u32
 fn hand_over(seats: &Seats, hub: &mut HubSeat) -> (Receipt, Receipt)
     requires clock { length seats.now.openings.items ≡ 1 }
     requires hub { IsSeatOf seats.now hub.old }
+    requires spare { 2 ≤ hub.old.spare }
     requires ordered { IsOrderedBy hub.old.view 1 1 1 }
     ensures hub { IsSeatOf seats.now hub.new }
 {
@@ -274,6 +282,7 @@ fn a_port_steps_its_clock_while_the_hub_meets(rt: HostRuntime) {
 fn step_until_refused(seats: &Seats, pass: &mut Pass) -> (u32, Option<Refused>)
     requires clock { length seats.now.openings.items ≡ 1 }
     requires pass { IsSeatOf seats.now pass.old }
+    requires spare { 1000 ≤ pass.old.spare }
     requires owner { pass.old.view.owner ≡ Port 1 }
     requires order { HasOrder (seen_log pass.old.view 0) 1 1 }
 {
@@ -317,4 +326,88 @@ fn handover(rt: HostRuntime) {
         }
         Err(NoMemory) => assert_eq!(rt; 0, 1),
     }
+}
+
+/// Clock 0's follower, to which its clock was given in generation 2: it copies clock 1.
+const FOLLOWER: Held = Held {
+    clock: 0,
+    gener: 2,
+    ctrl: 129,
+};
+
+/// Seats of two clocks, of which the first was given to its follower, which knows of it.
+fn followed(alloc: Global) -> Result<(Seats, HubSeat, Pass), NoMemory>
+    ensures clocks { IfOk result (λ r. length r.0.openings.items ≡ 2) }
+    ensures hub { IfOk result (λ r. IsSeatOf r.0 r.1) }
+    ensures hub_spare { IfOk result (λ r. 2 ≤ r.1.spare) }
+    ensures ordered { IfOk result (λ r. IsOrderedBy r.1.view 2 129 1) }
+    ensures pass { IfOk result (λ r. IsSeatOf r.0 r.2) }
+    ensures spare { IfOk result (λ r. 2 ≤ r.2.spare) }
+    ensures owner { IfOk result (λ r. r.2.view.owner ≡ Follower 0) }
+    ensures order { IfOk result (λ r. HasOrder (seen_log r.2.view 0) 2 129) }
+{
+    let clock = ClockState {
+        tick: 0,
+        time: 0,
+        freq: 0,
+        drift: 0,
+    };
+    let (seats, mut hub, mut passes) = Seats::new(alloc, &[clock, clock], 8, 1)?;
+    let Some(port) = passes.take() else {
+        return Err(NoMemory);
+    };
+    let Some(mut pass) = passes.take() else {
+        return Err(NoMemory);
+    };
+    hub.reserve(3)?;
+    pass.reserve(2)?;
+    let receipt = seats.order(&mut hub, 0, 2, 129);
+    seats.meet(&mut hub, &mut pass, &NoPage);
+    Ok((seats, hub, pass))
+}
+
+/// The follower steps its clock.
+fn follow(seats: &Seats, pass: &mut Pass) -> Result<Receipt, Refused>
+    requires clocks { length seats.now.openings.items ≡ 2 }
+    requires pass { IsSeatOf seats.now pass.old }
+    requires spare { 1 ≤ pass.old.spare }
+    requires owner { pass.old.view.owner ≡ Follower 0 }
+    requires order { HasOrder (seen_log pass.old.view 0) 2 129 }
+    ensures pass { IsSeatOf seats.now pass.new }
+    ensures spare { pass.old.spare ≤ pass.new.spare + 1 }
+    ensures owner { pass.new.view.owner ≡ Follower 0 }
+    ensures order { HasOrder (seen_log pass.new.view 0) 2 129 }
+{
+    seats.adjust(pass, FOLLOWER, 5 * SECOND, 50_000, 0)
+}
+
+/// The hub takes the clock from its follower and gives it to port 1.
+fn take_back(seats: &Seats, hub: &mut HubSeat) -> (Receipt, Receipt)
+    requires clocks { length seats.now.openings.items ≡ 2 }
+    requires hub { IsSeatOf seats.now hub.old }
+    requires spare { 2 ≤ hub.old.spare }
+    requires ordered { IsOrderedBy hub.old.view 2 129 1 }
+{
+    let revoked = seats.order(hub, 0, 3, 0);
+    let granted = seats.order(hub, 0, 3, 1);
+    (revoked, granted)
+}
+
+/// What the follower is answered before and after the clock is taken from it.
+fn followed_late(
+    alloc: Global,
+) -> Result<(Result<Receipt, Refused>, Result<Receipt, Refused>), NoMemory> {
+    let (seats, mut hub, mut pass) = followed(alloc)?;
+    let first = follow(&seats, &mut pass);
+    let (revoked, granted) = take_back(&seats, &mut hub);
+    Ok((first, follow(&seats, &mut pass)))
+}
+
+#[test]
+fn a_follower_is_late(rt: HostRuntime) {
+    let superseded = Refused::Superseded { newer: 3, at: 4 };
+    assert_eq!(rt;
+        followed_late(rt.alloc()).ok(),
+        Some((Ok(Receipt { number: 2 }), Err(superseded)))
+    );
 }

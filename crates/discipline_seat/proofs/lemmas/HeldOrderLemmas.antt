@@ -11,7 +11,10 @@ use Rattle.ptp_profile.specs.declared.roles.Stamp.{Stamp}
 use Rattle.ptp_profile.specs.Roles.SeatLogs.{order_count, stamp_after}
 use Rattle.discipline_seat.specs.HubOrders.{IsOrderedBy}
 use Rattle.discipline_seat.specs.Rule.SeatLog.{HasNoneBy}
-use Rattle.discipline_seat.specs.SeatCalls.{EntryAdded, HasSameOrders, IsNewHub, LeavesOthers}
+use Rattle.atomic_table.specs.Seated.{TableId}
+use Rattle.model_clock.specs.declared.state.ClockState.{ClockState}
+use Rattle.discipline_seat.specs.SeatValue.{SeatValue}
+use Rattle.discipline_seat.specs.SeatCalls.{AreNewPasses, EntryAdded, HasSameOrders, IsNewHub, IsNewPass, LeavesOthers}
 use Rattle.discipline_seat.specs.declared.view.Owner.{Owner}
 use Rattle.discipline_seat.proofs.lemmas.LogWordLemmas.{no_orders}
 use Rattle.discipline_seat.specs.declared.view.View.{View}
@@ -38,6 +41,36 @@ low_set (l ∷ ls) (suc clock) k few none (suc c) = low_set ls clock k few (λ d
 
 pub first_forest : (v : View) (clock k : ℕ) → k < 128 → ((c : ℕ) → seen_log v c ≡ []) → IsForest (ctrls_with v clock k)
 first_forest v clock k few none = low_forest (ctrls_with v clock k) (low_set v.seen clock k few none)
+
+low_logs : (logs : List SeatLog) → ((c : ℕ) → get_or logs c [] ≡ []) → (c : ℕ) → slice_index (map ctrl_after logs) c < 128
+low_logs [] none c = omega arith
+low_logs (l ∷ ls) none zero = subst (λ (m : SeatLog). ctrl_after m < 128) (sym (none zero)) (omega arith)
+low_logs (l ∷ ls) none (suc c) = low_logs ls (λ d. none (suc d)) c
+
+low_but_0 : (logs : List SeatLog) (k : ℕ) → ((c : ℕ) → get_or logs c [] ≡ []) → (c : ℕ) → slice_index (set (map ctrl_after logs) 0 k) (suc c) < 128
+low_but_0 [] k none c = omega arith
+low_but_0 (l ∷ ls) k none c = low_logs ls (λ d. none (suc d)) c
+
+-- a list of controllers of which only the first is a follower's, of another clock, is a forest
+one_copy : (ctrls : List ℕ) → slice_index ctrls 0 < 130 → slice_index ctrls 0 ≢ 128 → ((c : ℕ) → slice_index ctrls (suc c) < 128) → IsForest ctrls
+one_copy ctrls below other low c [] is contains = let lt = contains.1 in omega (arith, lt)
+one_copy ctrls below other low (suc c) (d ∷ walk) is contains = let lt = low c in let at = is.0 in omega (arith, lt, at)
+one_copy ctrls below other low zero (zero ∷ walk) is contains = absurd (other is.0)
+one_copy ctrls below other low zero (suc d ∷ e ∷ walk) is contains = let lt = low d in let at = is.1.0 in omega (arith, lt, at)
+one_copy ctrls below other low zero (suc d ∷ []) is (zero, lt, at) = absurd (omega (arith, at))
+one_copy ctrls below other low zero (suc d ∷ []) is (suc i, lt, at) = omega (arith, lt)
+
+-- the order of a follower, where nothing was ordered before
+pub copy_forest : (v : View) → ((c : ℕ) → seen_log v c ≡ []) → IsForest (ctrls_with v 0 129)
+copy_forest v none = one_copy (ctrls_with v 0 129) (first v.seen) (not_own v.seen) (low_but_0 v.seen 129 none)
+  where
+    first : (logs : List SeatLog) → slice_index (set (map ctrl_after logs) 0 129) 0 < 130
+    first [] = omega arith
+    first (l ∷ ls) = omega arith
+
+    not_own : (logs : List SeatLog) → slice_index (set (map ctrl_after logs) 0 129) 0 ≢ 128
+    not_own [] e = omega (arith, e)
+    not_own (l ∷ ls) e = omega (arith, e)
 
 -- a log that goes on from another has its orders
 has_back : (newer old : SeatLog) (g k : ℕ) → HasOrder old g k → HasOrder (newer ++ old) g k
@@ -107,3 +140,7 @@ new_ordered ports made v is = record {
   few = let e = ap order_count (is.nothing 0) in omega (arith, e);
   others = λ c n. subst (λ (l : SeatLog). ctrl_after l < 128) (sym (is.nothing c)) (omega arith);
 }
+
+-- the second of the new passes
+pub second_new : (table : TableId) (os : List ClockState) (ports : ℕ) (all one two : List SeatValue) (p q : SeatValue) → AreNewPasses table os ports all → all ≡ p ∷ one → one ≡ q ∷ two → IsNewPass table os ports 1 q
+second_new table os ports all one two p q new first next = subst (AreNewPasses table os ports) (first ∙ ap (λ (l : List SeatValue). p ∷ l) next) new 1 q (omega arith)

@@ -25,7 +25,7 @@ ctrls_with view clock ctrl = slice_set (map ctrl_after view.seen) clock ctrl
 -- a pass's story agrees with what the pass has seen, its numbers rise, and it has a receipt of each
 -- change of its own
 pub record IsTruthful (view : View) : Type 0 where
-  pub agree : StoryAgrees (seen_log view) view.stories.story
+  pub agree : StoryAgrees view.openings (seen_log view) view.stories.story
   pub rising : NumbersRise view.stories.story
   pub own : (clock : ℕ) →
       AreEntriesOf clock view.owner (seen_log view clock) (receipts_of clock view.stories.story)

@@ -169,26 +169,27 @@ pub record JoinTellsStories (stories : StoryView) : Type 0 where
 
 -- ---- what a story says of the logs
 
--- the log of the item's clock says what the item says
-abbrev pub ItemAgrees : (ℕ → SeatLog) → StoryItem → Type 0
-ItemAgrees logs (GaveReading clock reading) =
-    (log : SeatLog) × Extends log (logs clock) × (length log ≡ reading.number)
-    × (gener_after log ≡ reading.gener) × (ctrl_after log ≡ reading.ctrl)
-ItemAgrees logs (GaveReceipt clock gener ctrl tick step freq number) =
+-- the log of the item's clock says what the item says, where the clocks opened so
+abbrev pub ItemAgrees : List ClockState → (ℕ → SeatLog) → StoryItem → Type 0
+ItemAgrees openings logs (GaveReading clock reading) =
+    (log : SeatLog) × Extends log (logs clock)
+    × (reading ≡ whole_reading (clock_at openings clock) log)
+ItemAgrees openings logs (GaveReceipt clock gener ctrl tick step freq number) =
     (log : SeatLog) × Extends (Change gener ctrl tick step freq ∷ log) (logs clock)
     × (number ≡ suc (length log))
-ItemAgrees logs (WasSuperseded clock gener ctrl tick step freq newer at) =
+ItemAgrees openings logs (WasSuperseded clock gener ctrl tick step freq newer at) =
     (log : SeatLog) × Extends log (logs clock) × (length log ≡ at) × (gener_after log ≡ newer)
     × (gener < newer)
-ItemAgrees logs (WasSpent clock gener ctrl tick step freq at) =
+ItemAgrees openings logs (WasSpent clock gener ctrl tick step freq at) =
     (log : SeatLog) × Extends log (logs clock) × (length log ≡ at) × (gener_after log ≡ gener)
     × (ctrl_after log ≡ ctrl)
-ItemAgrees logs (HadPage list) = Unit {0}
+ItemAgrees openings logs (HadPage list) = Unit {0}
 
 -- each item does
-abbrev pub StoryAgrees : (ℕ → SeatLog) → Story → Type 0
-StoryAgrees logs [] = Unit {0}
-StoryAgrees logs (item ∷ story) = ItemAgrees logs item × StoryAgrees logs story
+abbrev pub StoryAgrees : List ClockState → (ℕ → SeatLog) → Story → Type 0
+StoryAgrees openings logs [] = Unit {0}
+StoryAgrees openings logs (item ∷ story) =
+    ItemAgrees openings logs item × StoryAgrees openings logs story
 
 -- the numbered entry before the others where the test holds
 abbrev pub with_entry_if : Bool → ℕ × LogEntry → List (ℕ × LogEntry) → List (ℕ × LogEntry)

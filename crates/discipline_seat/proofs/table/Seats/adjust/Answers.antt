@@ -27,7 +27,7 @@ look-at-requires c =
       clock = c.requires.clock;
       limit = refl;
       quiet = λ d l. no_page_asked c.args.self.now.rows e d l;
-      truth = λ m r law ext. asked_agrees c.args.self.now.rows e m c.args.held.clock (newer_than r (seen_log c.args.pass.now.view c.args.held.clock) (m c.args.held.clock) c.args.held.gener c.args.held.ctrl ext law (ordered_in _ _ _ c.requires.ordered) c.requires.somebody);
+      truth = λ m r law ext. asked_agrees c.args.self.now.openings.items c.args.self.now.rows e m c.args.held.clock (newer_than r (seen_log c.args.pass.now.view c.args.held.clock) (m c.args.held.clock) c.args.held.gener c.args.held.ctrl ext law (ordered_in _ _ _ c.requires.ordered) c.requires.somebody);
     }
 
 pub returns-in-Ok-clause-answer : goal.returns-in-Ok-clause-answer
@@ -36,7 +36,7 @@ returns-in-Ok-clause-answer c =
     let v : View = c.args.pass.now.view in
     let p : SeatValue = c.look-at.new.pass in
     let m : View = with_row p.view c.change-state.result in
-    let before : c.prepare.new.pass ≡ record { table = p.table; view = m } = c.prepare.ensures.row ∙ (λ i. record { table = (c.state.ensures.same i).table; view = with_row (c.state.ensures.same i).view c.change-state.result }) in
+    let before : c.prepare.new.pass ≡ record { table = p.table; view = m; spare = p.spare } = c.prepare.ensures.row ∙ (λ i. record { table = (c.state.ensures.same i).table; view = with_row (c.state.ensures.same i).view c.change-state.result; spare = (c.state.ensures.same i).spare }) in
     let owner = ap (λ (y : View). y.owner) s.is in
     let step : to_z w64 (of_z w64 c.args.step) ≡ c.args.step = to_z-of_z w64 c.args.step c.ranges.step in
     let freq : to_z w64 (of_z w64 c.args.freq) ≡ c.args.freq = to_z-of_z w64 c.args.freq c.ranges.freq in
@@ -50,7 +50,7 @@ returns-in-Ok-clause-story c =
     let v : View = c.args.pass.now.view in
     let p : SeatValue = c.look-at.new.pass in
     let m : View = with_row p.view c.change-state.result in
-    let before : c.prepare.new.pass ≡ record { table = p.table; view = m } = c.prepare.ensures.row ∙ (λ i. record { table = (c.state.ensures.same i).table; view = with_row (c.state.ensures.same i).view c.change-state.result }) in
+    let before : c.prepare.new.pass ≡ record { table = p.table; view = m; spare = p.spare } = c.prepare.ensures.row ∙ (λ i. record { table = (c.state.ensures.same i).table; view = with_row (c.state.ensures.same i).view c.change-state.result; spare = (c.state.ensures.same i).spare }) in
     let owner = ap (λ (y : View). y.owner) s.is in
     let step : to_z w64 (of_z w64 c.args.step) ≡ c.args.step = to_z-of_z w64 c.args.step c.ranges.step in
     let freq : to_z w64 (of_z w64 c.args.freq) ≡ c.args.freq = to_z-of_z w64 c.args.freq c.ranges.freq in
@@ -64,7 +64,7 @@ returns-in-Err-clause-answer c =
     let v : View = c.args.pass.now.view in
     let p : SeatValue = c.look-at.new.pass in
     let m : View = with_row p.view c.change-state.result in
-    let before : c.prepare.new.pass ≡ record { table = p.table; view = m } = c.prepare.ensures.row ∙ (λ i. record { table = (c.state.ensures.same i).table; view = with_row (c.state.ensures.same i).view c.change-state.result }) in
+    let before : c.prepare.new.pass ≡ record { table = p.table; view = m; spare = p.spare } = c.prepare.ensures.row ∙ (λ i. record { table = (c.state.ensures.same i).table; view = with_row (c.state.ensures.same i).view c.change-state.result; spare = (c.state.ensures.same i).spare }) in
     let owner = ap (λ (y : View). y.owner) s.is in
     let e = subst (λ (q : SeatValue). WasOvertaken q.view c.args.held.clock c.args.held.gener c.in-Err.now c.exchange.new.pass.view) before c.in-Err.ensures.told in
     (e.newer, e.gener, e.number, grew_on _ _ _ _ _ s.grew (subst (λ (o : Owner). GrewByOthers c.args.held.clock o (seen_log m c.args.held.clock) (seen_log c.exchange.new.pass.view c.args.held.clock)) owner e.grew))
@@ -75,7 +75,7 @@ returns-in-Err-clause-story c =
     let v : View = c.args.pass.now.view in
     let p : SeatValue = c.look-at.new.pass in
     let m : View = with_row p.view c.change-state.result in
-    let before : c.prepare.new.pass ≡ record { table = p.table; view = m } = c.prepare.ensures.row ∙ (λ i. record { table = (c.state.ensures.same i).table; view = with_row (c.state.ensures.same i).view c.change-state.result }) in
+    let before : c.prepare.new.pass ≡ record { table = p.table; view = m; spare = p.spare } = c.prepare.ensures.row ∙ (λ i. record { table = (c.state.ensures.same i).table; view = with_row (c.state.ensures.same i).view c.change-state.result; spare = (c.state.ensures.same i).spare }) in
     let owner = ap (λ (y : View). y.owner) s.is in
     let step : to_z w64 (of_z w64 c.args.step) ≡ c.args.step = to_z-of_z w64 c.args.step c.ranges.step in
     let freq : to_z w64 (of_z w64 c.args.freq) ≡ c.args.freq = to_z-of_z w64 c.args.freq c.ranges.freq in
@@ -93,7 +93,7 @@ pub returns-in-Ok-clause-same : goal.returns-in-Ok-clause-same
 returns-in-Ok-clause-same c =
     let p : SeatValue = c.look-at.new.pass in
     let m : View = with_row p.view c.change-state.result in
-    let before : c.prepare.new.pass ≡ record { table = p.table; view = m } = c.prepare.ensures.row ∙ (λ i. record { table = (c.state.ensures.same i).table; view = with_row (c.state.ensures.same i).view c.change-state.result }) in
+    let before : c.prepare.new.pass ≡ record { table = p.table; view = m; spare = p.spare } = c.prepare.ensures.row ∙ (λ i. record { table = (c.state.ensures.same i).table; view = with_row (c.state.ensures.same i).view c.change-state.result; spare = (c.state.ensures.same i).spare }) in
     let first = leaves_row _ p.view c.args.held.clock c.change-state.result (look_leaves _ _ _ _ _ _ c.look-at.ensures.sees) in
     leaves_on _ m _ c.args.held.clock first (subst (λ (q : SeatValue). LeavesOthers q.view c.args.held.clock c.exchange.new.pass.view) before c.in-Ok.ensures.same)
 
@@ -101,6 +101,6 @@ pub returns-in-Err-clause-same : goal.returns-in-Err-clause-same
 returns-in-Err-clause-same c =
     let p : SeatValue = c.look-at.new.pass in
     let m : View = with_row p.view c.change-state.result in
-    let before : c.prepare.new.pass ≡ record { table = p.table; view = m } = c.prepare.ensures.row ∙ (λ i. record { table = (c.state.ensures.same i).table; view = with_row (c.state.ensures.same i).view c.change-state.result }) in
+    let before : c.prepare.new.pass ≡ record { table = p.table; view = m; spare = p.spare } = c.prepare.ensures.row ∙ (λ i. record { table = (c.state.ensures.same i).table; view = with_row (c.state.ensures.same i).view c.change-state.result; spare = (c.state.ensures.same i).spare }) in
     let first = leaves_row _ p.view c.args.held.clock c.change-state.result (look_leaves _ _ _ _ _ _ c.look-at.ensures.sees) in
     leaves_on _ m _ c.args.held.clock first (subst (λ (q : SeatValue). LeavesOthers q.view c.args.held.clock c.exchange.new.pass.view) before c.in-Err.ensures.same)

@@ -1,4 +1,4 @@
-use Rattle.std.proofs.Common.{◌≡◌, ℕ, suc, ◌+◌, ◌*◌, ◌-◌, ◌<◌, ◌≤◌, ◌∷◌, [], length, set, get_or, refl, sym, ap, ◌∙◌, subst, arith, get_or-set_same, get_or-set_other, length-set, add-one, slice_index}
+use Rattle.std.proofs.Common.{◌≡◌, ℕ, suc, ◌+◌, ◌*◌, ◌-◌, ◌<◌, ◌≤◌, List, ◌∷◌, ◌++◌, [], length, set, get_or, refl, sym, ap, ◌∙◌, subst, arith, get_or-set_same, get_or-set_other, length-set, add-one, slice_index}
 use native.Mathlib.Decide.{ℕ_discrete}
 use mathlib.Core.Logic.{dite}
 use Rattle.discipline_seat.specs.SeatValue.{SeatValue}
@@ -9,6 +9,10 @@ use Rattle.discipline_seat.specs.Rule.SeatView.{after_look as saw, seen_log}
 use Rattle.discipline_seat.specs.SeatCalls.{LeavesOthers, EntryAdded}
 use Rattle.discipline_seat.proofs.lemmas.RuleLemmas.{put, at_put, seen_here, seen_else}
 use Rattle.discipline_seat.proofs.lemmas.StepLemmas.{appoints, same_forest}
+use Rattle.ptp_base.specs.Room.{Reserved}
+use Rattle.discipline_seat.specs.declared.entries.Numbered.{Numbered}
+use Rattle.discipline_seat.specs.SeatEntries.{KeepsOrders}
+use Rattle.discipline_seat.proofs.lemmas.SeatEntryLemmas.{keeps_order}
 use Rattle.discipline_seat.proofs.lemmas.CallLemmas.{saw_leaves, unpacks, makes}
 use Rattle.discipline_seat.proofs.table.Seats.appoint.Goals as goal
 
@@ -103,6 +107,8 @@ invariant_of-hub c =
       ap (λ (y : View). y.owner) made.is ∙ i.2,
       length-set c.hub.inside.stamps.items c.from-5.result (c.from-2.result * 256 + c.from-3.result) ∙ i.3 ∙ now_words,
       λ d h. stamps_kept c.hub.inside.stamps.items u c.fetch_add-found.new.seat.me.0 c.from-4.result c.from-5.result d c.args.gener c.args.ctrl (c.from-2.result * 256 + c.from-3.result) made.log i.4 made.is wide (omega (arith, i.3, i.1, wide)) (c.from-5.ensures ∙ sym e) (omega (arith, c.from-2.ensures, c.from-3.ensures)) f.3 h,
+      subst (λ (es : List Numbered). KeepsOrders es c.fetch_add-found.new.seat.me.0) (sym (ap (λ (r : Reserved Numbered). r.items) c.push.ensures)) (subst (λ (n : ℕ). KeepsOrders (c.hub.inside.entries.items ++ record { clock = n; number = c.unpack-number.result.number + 1; entry = new } ∷ []) c.fetch_add-found.new.seat.me.0) e
+          (keeps_order c.hub.inside.entries.items u c.fetch_add-found.new.seat.me.0 c.from-4.result (c.unpack-number.result.number + 1) c.args.gener c.args.ctrl made.log wide made.is i.2 made.grew (add-one c.unpack-number.result.number ∙ ap suc (made.number c.unpack-number.result (unpacks _ _ c.unpack-number.ensures.only))) i.5)),
     )
 
 pub returns-clause-same : goal.returns-clause-same
@@ -139,9 +145,9 @@ returns-clause-made c =
     let f = subst (λ (q : View × ℕ). MayComeNext c.args.self.now.rows (seen_log q.0 q.1) new) (λ j. (sym v j, sym e j)) c.requires.follows in
     let made = makes u w c.from-4.result c.fetch_add-found.result _ c.args.gener c.args.ctrl i.2 a.2.1
     (sum_is c.args.self.now.rows c.args.gener c.args.ctrl c.from-2.result c.from-3.result c.index-old.result.now (seen_log u c.from-4.result) c.from-2.ensures c.from-3.ensures f old.1 old.0) f.2 f.3 in
-    subst (λ (q : View × ℕ). EntryAdded q.0 q.1 new (c.unpack.result.number + 1) w) (λ j. (v j, e j)) record {
+    subst (λ (q : View × ℕ). EntryAdded q.0 q.1 new (c.unpack-number.result.number + 1) w) (λ j. (v j, e j)) record {
       log = made.log;
       is = ap (λ (y : View). seen_log y c.from-4.result) made.is ∙ seen_here u c.from-4.result (new ∷ made.log) wide;
-      number = add-one c.unpack.result.number ∙ ap suc (made.number c.unpack.result (unpacks _ _ c.unpack.ensures.only));
+      number = add-one c.unpack-number.result.number ∙ ap suc (made.number c.unpack-number.result (unpacks _ _ c.unpack-number.ensures.only));
       grew = made.grew;
     }

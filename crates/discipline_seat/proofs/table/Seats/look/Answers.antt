@@ -1,4 +1,5 @@
-use Rattle.std.proofs.Common.{sym, ◌≡◌, ℕ, ◌<◌, length, ap, ◌∙◌, subst, arith}
+use Rattle.std.proofs.Common.{sym, ◌≡◌, ℕ, ◌<◌, List, length, ap, ◌∙◌, subst, arith}
+use Rattle.model_clock.specs.declared.state.ClockState.{ClockState}
 use Rattle.discipline_seat.specs.SeatValue.{SeatValue}
 use Rattle.discipline_seat.specs.declared.view.View.{View}
 use Rattle.discipline_seat.specs.Rule.SeatLog.{Extends, IsSeatLog, SeatLog}
@@ -10,6 +11,7 @@ use Rattle.discipline_seat.specs.SeatCalls.{LookYields}
 use Rattle.discipline_seat.proofs.lemmas.StepLemmas.{looks}
 use Rattle.discipline_seat.proofs.lemmas.RuleLemmas.{seen_here}
 use Rattle.discipline_seat.proofs.lemmas.StoryTruthLemmas.{truth_looked}
+use Rattle.discipline_seat.proofs.lemmas.SeatEntryLemmas.{keeps_on}
 use Rattle.discipline_seat.proofs.lemmas.CallLemmas.{unpacks, sees, still_pass}
 use Rattle.discipline_seat.proofs.table.Seats.look.Goals as goal
 
@@ -53,10 +55,12 @@ invariant_of-pass g c =
     let first : Extends (seen_log v n) (seen_log t.0 n) = record { newer = t.1.grew.newer; is = here ∙ t.1.grew.is } in
     let ext : Extends (seen_log c.args.pass.now.view c.args.clock) (seen_log t.0 c.args.clock) = subst (λ (q : SeatValue × ℕ). Extends (seen_log q.0.view q.1) (seen_log t.0 q.1)) (λ i. (c.pass.view_is i, c.from.ensures i)) first in
     let m : ℕ → SeatLog = seen_log t.0 in
-    let truth = subst (λ (x : ℕ). StoryAgrees m (g.A.Answer.says x (m x)) × HasNoReceipts (g.A.Answer.says x (m x)) × IsAnswerOfLook m (g.A.Answer.says x (m x))) (sym c.from.ensures) (c.requires.truth m t.1.rows law ext) in (
+    let opened : v.openings ≡ c.args.self.now.openings.items = ap (λ (p : SeatValue). p.view.openings) c.pass.view_is ∙ c.requires.table.openings_are in
+    let truth = subst (λ (x : ℕ). StoryAgrees c.args.self.now.openings.items m (g.A.Answer.says x (m x)) × HasNoReceipts (g.A.Answer.says x (m x)) × IsAnswerOfLook m (g.A.Answer.says x (m x))) (sym c.from.ensures) (c.requires.truth m t.1.rows law ext) in (
       l.2.0 ∙ i.0,
       after.0,
       after.1,
       after.2,
-      truth_looked v t.0 z n t.1.log xs t.1.is t.2 wide t.1.grew truth.0 truth.1 truth.2 i.4,
+      truth_looked v t.0 z n t.1.log xs t.1.is t.2 wide t.1.grew (subst (λ (os : List ClockState). StoryAgrees os m xs) (sym opened) truth.0) truth.1 truth.2 i.4,
+      keeps_on c.pass.inside.entries.items v z xs truth.1 (ap (λ (y : View). y.stories.story) (t.2 ∙ ap (λ (y : View). with_more_story y xs) t.1.is)) i.5,
     )

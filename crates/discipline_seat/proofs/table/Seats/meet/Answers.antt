@@ -7,6 +7,7 @@ use Rattle.discipline_seat.specs.Rule.SeatView.{seen_log}
 use Rattle.discipline_seat.specs.SeatCalls.{MeetYields}
 use Rattle.discipline_seat.proofs.lemmas.StoryEndLemmas.{quiet_later, quiet_same}
 use Rattle.discipline_seat.proofs.lemmas.StoryTruthLemmas.{truth_on, pages_agree}
+use Rattle.discipline_seat.proofs.lemmas.SeatEntryLemmas.{keeps_on}
 use Rattle.discipline_seat.proofs.lemmas.CallLemmas.{grew_on}
 use Rattle.discipline_seat.specs.declared.view.Owner.{Owner}
 use Rattle.discipline_seat.proofs.lemmas.MeetLemmas.{orders_on, met_again}
@@ -35,8 +36,9 @@ invariant_of-pass g c =
     let xs : Story = page_item (g.N.Page.list c.args.page.now) in
     let story : z.stories.story ≡ xs ++ v.stories.story = b.story ∙ ap (λ (l : Story). xs ++ l) a.story in
     let grew : (d : ℕ) → GrewByOthers d v.owner (seen_log v d) (seen_log z d) = λ d. grew_on d v.owner (seen_log v d) (seen_log q d) (seen_log z d) (a.grew d) (subst (λ (o : Owner). GrewByOthers d o (seen_log q d) (seen_log z d)) a.owner (b.grew d)) in
-    let page = pages_agree (seen_log z) (g.N.Page.list c.args.page.now) in
-    (s.no_slots, s.wide, s.pass, subst (λ (l : Story). GrewWithoutPages l z.stories.story) (sym b.level) (quiet_same z.stories.story), truth_on v z xs (b.owner ∙ a.owner) story grew page.0 page.1 page.2 i.4)
+    let opened : z.openings ≡ v.openings = c.round.ensures.pass_table.openings_are ∙ sym (ap (λ (p : SeatValue). p.view.openings) c.pass.view_is ∙ c.requires.pass_table.openings_are) in
+    let page = pages_agree v.openings (seen_log z) (g.N.Page.list c.args.page.now) in
+    (s.no_slots, s.wide, s.pass, subst (λ (l : Story). GrewWithoutPages l z.stories.story) (sym b.level) (quiet_same z.stories.story), truth_on v z xs (b.owner ∙ a.owner) opened story grew page.0 page.1 page.2 i.4, keeps_on c.pass.inside.entries.items v z xs page.1 story i.5)
 
 pub returns-clause-orders : goal.returns-clause-orders
 returns-clause-orders g c = λ d. orders_on _ _ _ (c.bare_round.ensures.orders d) (c.round.ensures.orders d)

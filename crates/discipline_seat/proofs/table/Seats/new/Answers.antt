@@ -37,9 +37,9 @@ loop-made-preserved c =
     let h = c.loop-made.hub in
     let items = c.push_reserved.ensures.items in
     let long = length-append c.loop-made.passes.items (c.deal-pass.result ∷ []) in
-    let hub : c.deal-pass.new.hub ≡ record { table = h.table; view = dealt h.view } = c.deal-pass.ensures.hub in
-    let pass : c.deal-pass.result ≡ record { table = h.table; view = new_pass h.view } = c.deal-pass.ensures.pass in
-    let fresh : IsNewPass t os c.args.ports (length c.loop-made.passes.items) (record { table = h.table; view = new_pass h.view })
+    let hub : c.deal-pass.new.hub ≡ record { table = h.table; view = dealt h.view; spare = h.spare } = c.deal-pass.ensures.hub in
+    let pass : c.deal-pass.result ≡ record { table = h.table; view = new_pass h.view; spare = 0 } = c.deal-pass.ensures.pass in
+    let fresh : IsNewPass t os c.args.ports (length c.loop-made.passes.items) (record { table = h.table; view = new_pass h.view; spare = 0 })
     = record {
       belongs = record { table_is = b.table_is; openings_are = b.openings_are };
       owner = λ j. pass_owner (g.ports_are j) (g.passes j);

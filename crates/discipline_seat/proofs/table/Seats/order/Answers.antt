@@ -11,6 +11,7 @@ appoint-number-requires c =
     record {
       table = c.requires.table;
       clock = c.requires.clock;
+      spare = c.requires.spare;
       follows = (f.0, f.1, omega (arith, c.requires.gener), small, c.requires.few);
       forest = no_circle_with c.args.hub.now.view c.args.clock c.args.gener c.args.ctrl c.requires.forest;
     }

@@ -3,7 +3,7 @@ use Rattle.discipline_seat.specs.SeatValue.{SeatValue}
 use Rattle.discipline_seat.specs.declared.view.View.{View}
 use Rattle.discipline_seat.specs.Rule.SeatView.{IsTruthful, seen_log, with_row_word}
 use Rattle.discipline_seat.specs.Rule.SeatLog.{ctrl_after, owner_named as named, pass_owner}
-use Rattle.discipline_seat.specs.Rule.Story.{GrewWithoutPages}
+use Rattle.discipline_seat.specs.Rule.Story.{GrewWithoutPages, receipts_of}
 use Rattle.discipline_seat.specs.Rule.SeatRule.{row_place}
 use Rattle.discipline_seat.proofs.lemmas.RowLemmas.{place_within}
 use Rattle.discipline_seat.proofs.lemmas.RowStepLemmas.{writes}
@@ -38,4 +38,4 @@ invariant_of-pass c =
     let truth : IsTruthful w = record { agree = t.agree; rising = t.rising; own = t.own } in
     let all : (length w.seen ≡ length w.openings) × (w.owner ≡ pass_owner w.ports w.number) × GrewWithoutPages w.stories.told w.stories.story × IsTruthful w = (i.1, i.2, i.3, truth) in
     let z = subst (λ (y : View). (length y.seen ≡ length y.openings) × (y.owner ≡ pass_owner y.ports y.number) × GrewWithoutPages y.stories.told y.stories.story × IsTruthful y) (sym a.2.1) all in
-    (a.2.0 ∙ i.0, z.0, z.1, z.2, z.3)
+    (a.2.0 ∙ i.0, z.0, z.1, z.2, z.3, λ d. i.5 d ∙ ap (λ (y : View). receipts_of d y.stories.story) (sym a.2.1))

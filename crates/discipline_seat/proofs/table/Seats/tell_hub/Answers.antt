@@ -8,6 +8,7 @@ use Rattle.discipline_seat.specs.Rule.Story.{stories_after_hearing}
 use Rattle.discipline_seat.specs.Rule.SeatLog.{Extends}
 use Rattle.discipline_seat.specs.SeatCalls.{HasSameOrders, HearYields}
 use Rattle.discipline_seat.proofs.lemmas.MeetLemmas.{orders_stay, noted, hears_it, stamps_stay, just_more}
+use Rattle.discipline_seat.proofs.lemmas.SeatEntryLemmas.{keeps_orders}
 use Rattle.discipline_seat.proofs.lemmas.StepLemmas.{puts, hears, tells_all}
 use Rattle.discipline_seat.proofs.table.Seats.tell_hub.Goals as goal
 
@@ -53,6 +54,7 @@ invariant_of-hub g c =
       told.owner ∙ i.2,
       i.3 ∙ words,
       λ d h. stamps_stay v w d _ i.2 (told.mine d) (i.4 d h),
+      keeps_orders c.hub.inside.entries.items v w i.2 told.mine i.5,
     )
 
 pub returns-clause-hub_table : goal.returns-clause-hub_table

@@ -56,7 +56,7 @@ returns-clause-seat c =
 pub returns-clause-hub : goal.returns-clause-hub
 returns-clause-hub c =
     let e = c.split_seat-note.ensures in
-    (λ i. record { table = e.0 i; view = ap (λ (m : Me LogEntry View). m.0) e.2 i }) ∙ c.hub.view_is
+    (λ i. record { table = e.0 i; view = ap (λ (m : Me LogEntry View). m.0) e.2 i; spare = c.hub.inside.entries.spare }) ∙ c.hub.view_is
 
 pub returns-clause-pass_table : goal.returns-clause-pass_table
 returns-clause-pass_table c =
