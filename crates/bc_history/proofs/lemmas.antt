@@ -20,3 +20,7 @@ pub mod PortEntriesLemmas
 pub mod MeasureLemmas
 pub mod ArrivalLemmas
 pub mod StampLemmas
+pub mod FollowerPhaseLemmas
+pub mod FollowerEntriesLemmas
+pub mod LeadLemmas
+pub mod FollowerLemmas

@@ -6,6 +6,7 @@ pub mod Samples
 pub mod ExchangeOutcomes
 pub mod PortPlace
 pub mod FollowerPlace
+pub mod FollowerEntries
 pub mod World
 pub mod RunExamples
 pub mod Transcript

@@ -3,6 +3,7 @@
 
 mod entry;
 mod examples;
+mod follower_laws;
 mod laws;
 mod option;
 mod option_laws;
@@ -23,6 +24,10 @@ pub use examples::{
     master_sends, qualification_waits, queries_are_answered, runs_are_finished, silent_ports,
     told_too_late, two_announces_qualify,
 };
+pub use follower_laws::{
+    follower_places_are_by_leads, followers_are_told_by_their_own_entries,
+    followers_keep_their_entries, followers_stay, leads_are_ordered,
+};
 pub use laws::{
     at_most_one_follows, controllers_are_always_a_forest, edges_are_those_of_the_ports,
     entries_tell_by_their_kind, exchanges_agree, has_one_end, moments_never_fall,
@@ -30,7 +35,7 @@ pub use laws::{
 };
 pub use option::{Form, Scope};
 pub use option_laws::{defaults_are_of_the_table, options_are_named};
-pub use place::PortPlace;
+pub use place::{FollowerPlace, PortPlace};
 pub use port_input::{EventContext, PortEntry, PortHappening, PortInput};
 pub use port_laws::{
     measures_bear_readings, measures_bear_their_ports_stamp, places_are_by_measures,

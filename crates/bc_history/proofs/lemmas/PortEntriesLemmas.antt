@@ -133,7 +133,7 @@ record-elsewhere (Sampled clock tick lead theirs own action outcome) p other = r
 record-elsewhere (Query tick text) p other = refl
 
 -- a list with one entry more or not
-length-if : (b : Bool) (e : Entry) (es : List Entry) → length (cond b (e ∷ es) es) ≡ cond b (length es + 1) (length es)
+pub length-if : (b : Bool) (e : Entry) (es : List Entry) → length (cond b (e ∷ es) es) ≡ cond b (length es + 1) (length es)
 length-if true e es = omega arith
 length-if false e es = refl
 
@@ -183,7 +183,7 @@ taken-state_of s entries p h there = port_history s HasTaken (takes s) entries p
 -- ---- what a list says is said by those of its elements that pass a test
 
 -- what is made of the elements is made of those that pass
-filter_map-filter : {X Y : Type 0} (make : X → Option Y) (test : X → Bool) → ((x : X) → test x ≡ false → make x ≡ None)
+pub filter_map-filter : {X Y : Type 0} (make : X → Option Y) (test : X → Bool) → ((x : X) → test x ≡ false → make x ≡ None)
     → (xs : List X) → filter_map make xs ≡ filter_map make (filter test xs)
 filter_map-filter make test others [] = refl
 filter_map-filter {X} {Y} make test others (x ∷ xs) = by (test x) refl (filter_map-filter make test others xs)
@@ -194,7 +194,7 @@ filter_map-filter {X} {Y} make test others (x ∷ xs) = by (test x) refl (filter
     by false is rest = ap (λ (y : Option Y). cons_option y (filter_map make xs)) (others x is) ∙ rest
 
 -- of the elements those that pass two tests, where the second passes all that pass the first
-filter-filter : {X : Type 0} (test wide : X → Bool) → ((x : X) → wide x ≡ false → test x ≡ false) → (xs : List X)
+pub filter-filter : {X : Type 0} (test wide : X → Bool) → ((x : X) → wide x ≡ false → test x ≡ false) → (xs : List X)
     → filter test xs ≡ filter test (filter wide xs)
 filter-filter test wide others [] = refl
 filter-filter {X} test wide others (x ∷ xs) = by (wide x) refl (filter-filter test wide others xs)

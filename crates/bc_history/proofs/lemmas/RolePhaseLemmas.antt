@@ -30,11 +30,11 @@ use Rattle.bc_history.proofs.lemmas.PortIdentityLemmas.{ports-length}
 -- ---- edges
 
 -- the edges of so many clocks by the ports and the parent
-abbrev edges_in : ℕ → Core → List (Option Edge)
+abbrev pub edges_in : ℕ → Core → List (Option Edge)
 edges_in clocks c = edges_of clocks c.master.parent (states_of c.ports) (clocks_of c.ports)
 
 -- one for each clock
-edges_in-length : (clocks : ℕ) (c : Core) → length (edges_in clocks c) ≡ clocks
+pub edges_in-length : (clocks : ℕ) (c : Core) → length (edges_in clocks c) ≡ clocks
 edges_in-length clocks c =
     let states = states_of c.ports in
     let port_clocks = clocks_of c.ports in

@@ -168,7 +168,7 @@ Each-measured_held o h e =
 -- ---- the stamp of a clock whose port follows
 
 -- a stamp that somebody holds is that of an order
-stamp_of-ordered : (clock : ℕ) (orders : List RoleOrder) → (stamp_of clock orders).ctrl ≢ 0
+pub stamp_of-ordered : (clock : ℕ) (orders : List RoleOrder) → (stamp_of clock orders).ctrl ≢ 0
     → Contains orders (record { clock = clock; gener = (stamp_of clock orders).gener; ctrl = (stamp_of clock orders).ctrl })
 stamp_of-ordered clock [] some = absurd (some refl)
 stamp_of-ordered clock (order ∷ orders) some = by (eqb order.clock clock) refl some (stamp_of-ordered clock orders)
@@ -188,7 +188,7 @@ stamp_of-ordered clock (order ∷ orders) some = by (eqb order.clock clock) refl
     by false is held rest = Contains-append_right (order ∷ []) orders _ (rest held)
 
 -- the controller of a clock is that of its edge
-ctrl-edge : (s : Scenario) → IsScenario s → (entries : List Entry) (clock : ℕ) → clock < length s.clocks
+pub ctrl-edge : (s : Scenario) → IsScenario s → (entries : List Entry) (clock : ℕ) → clock < length s.clocks
     → (stamp_of clock (state_of s entries).roles.orders).ctrl ≡ ctrl_by (edge_at (state_of s entries).roles.edges clock)
 ctrl-edge s is entries clock within =
     let r = (state_of s entries).roles in
@@ -196,7 +196,7 @@ ctrl-edge s is entries clock within =
     ∙ (ap (λ (ctrls : List ℕ). slice_index ctrls clock) (ctrls-state_of s is entries) ∙ get_or-map ctrl_by r.edges clock None)
 
 -- a fact of all elements is one of each
-All-at : {X : Type 0} (P : X → Type 0) (xs : List X) (i : ℕ) (x : X) → All P xs → slice_get xs i ≡ Some x → P x
+pub All-at : {X : Type 0} (P : X → Type 0) (xs : List X) (i : ℕ) (x : X) → All P xs → slice_get xs i ≡ Some x → P x
 All-at P [] i x all is = absurd (cc)
 All-at P (y ∷ ys) zero x all is = subst P (same_Some y x is) (All-head P y ys all)
 All-at P (y ∷ ys) (suc i) x all is = All-at P ys i x (All-tail P y ys all) is

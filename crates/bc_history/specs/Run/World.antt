@@ -4,19 +4,15 @@ use Rattle.std.specs.Option.{option_or}
 use Rattle.ptp_base.specs.Least.{first_least}
 use Rattle.ptp_base.specs.declared.limits.TheConstants.{ENTRIES_MAX}
 use Rattle.model_clock.specs.Clock.{clock_at, reading}
-use Rattle.ptp_profile.specs.declared.timing.Action.{Action}
-use Rattle.ptp_profile.specs.declared.timing.Action.TheVariants.{Unlocked as Unlocked_action}
 use Rattle.ptp_profile.specs.declared.roles.Lead.{Lead}
 use Rattle.ptp_profile.specs.declared.seats.Held.{Held}
 use Rattle.ptp_profile.specs.declared.seats.LogEntry.{LogEntry}
 use Rattle.ptp_profile.specs.declared.seats.Reading.{Reading}
-use Rattle.ptp_profile.specs.Timing.Servo.{newest_action}
 use Rattle.ptp_profile.specs.Roles.SeatLogs.{log_at, logs_from, no_logs, whole_reading, with_orders}
 use Rattle.bc_history.specs.declared.entry.Entry.{Entry}
 use Rattle.bc_history.specs.declared.entry.Input.{Input}
 use Rattle.bc_history.specs.declared.entry.Input.TheVariants.{Report, Turn, Sampled, Query}
 use Rattle.bc_history.specs.declared.entry.Outcome.{Outcome}
-use Rattle.bc_history.specs.declared.entry.Outcome.TheVariants.{Unlocked}
 use Rattle.bc_history.specs.declared.entry.Seen.{Seen}
 use Rattle.bc_history.specs.declared.entry.Run.{Run}
 use Rattle.bc_history.specs.declared.entry.Who.{Who}
@@ -29,17 +25,19 @@ use Rattle.bc_history.specs.declared.scenario.Turns.{Turns}
 use Rattle.bc_history.specs.Phases.State.{Follower, State}
 use Rattle.bc_history.specs.Phases.HubPort.{HubPort}
 use Rattle.bc_history.specs.Phases.Inputs.{tick_of, port_at, changed_at, at_port, is_read}
-use Rattle.bc_history.specs.Phases.OpeningState.{servo_of, follower_count}
+use Rattle.bc_history.specs.Phases.OpeningState.{follower_count}
 use Rattle.bc_history.specs.Run.ExchangeOutcomes.{exchange_result}
 use Rattle.bc_history.specs.Phases.Step.{state_of}
 use Rattle.bc_history.specs.Phases.EntryEffects.{entry_after}
 use Rattle.bc_history.specs.Run.NextInputs.{next_input, turn_tick, query_input}
 use Rattle.bc_history.specs.Run.Actors.{actors_of}
-use Rattle.bc_history.specs.Run.Samples.{follower_samples, sample_of}
+use Rattle.bc_history.specs.Run.Samples.{follower_samples}
 use Rattle.bc_history.specs.declared.place.PortPlace.{PortPlace}
 use Rattle.bc_history.specs.declared.place.PortPlace.TheVariants.{Waits, Exchanges, Reports}
 use Rattle.bc_history.specs.Run.PortPlace.{after_port_exchange, place_by_entries}
-use Rattle.bc_history.specs.Run.FollowerPlace.{FollowerPlace, Turns_next, Reads_theirs, Reads_own, Exchanges_own, Samples}
+use Rattle.bc_history.specs.declared.place.FollowerPlace.{FollowerPlace}
+use Rattle.bc_history.specs.declared.place.FollowerPlace.TheVariants.{Turns as Turns_next, ReadsTheirs as Reads_theirs, ReadsOwn as Reads_own, Exchanges as Exchanges_own, Samples}
+use Rattle.bc_history.specs.Run.FollowerPlace.{after_follower_exchange, after_follower_reading, follower_place_by_entries}
 
 -- ---- where an actor is in its job
 
@@ -175,55 +173,39 @@ held_by c lead = record { clock = c; gener = lead.gener; ctrl = 128 + lead.sourc
 abbrev pub with_follower : World → ℕ → FollowerPlace → World
 with_follower w c place = with_place (A_follower c) (Of_follower place) w
 
--- where a follower is after its turn
-abbrev pub turn_place : ℕ → Option Lead → FollowerPlace
-turn_place tick None = Turns_next
-turn_place tick (Some lead) = Reads_theirs tick lead
-
--- what a turn told a follower to copy
-abbrev pub told_lead : Entry → Option Lead
-told_lead e = option_and_then (λ told. told.lead) e.effects.told
-
--- where a follower goes with its servo's action: to the exchange, or past it where there is none
-abbrev pub follower_job : ℕ → Lead → Seen → Seen → Action → FollowerPlace
-follower_job tick lead theirs own Unlocked_action =
-    Samples tick lead theirs own Unlocked_action Unlocked
-follower_job tick lead theirs own action = Exchanges_own tick lead theirs own action
-
--- an entry of the follower of clock c, which goes on to the place that follows from it
-abbrev pub follower_event : Scenario → World → ℕ → Input → (Entry → FollowerPlace) → World
-follower_event s w c input place = placed (entry_after s w.entries input None)
+-- an entry of the follower of clock c enters the history, and the follower goes on to its next
+-- place
+abbrev pub follower_event : Scenario → World → ℕ → Input → World
+follower_event s w c input = placed (entry_after s w.entries input None)
   where
     placed : Entry → World
-    placed e = with_follower (with_entry w e) c (place e)
+    placed e = with_follower (with_entry w e) c (follower_place_by_entries c (e ∷ w.entries))
+
+-- the follower of clock c at the place where a reading takes it
+abbrev pub follower_reading : Scenario → World → ℕ → Seen → FollowerPlace → World
+follower_reading s w c seen place =
+    with_follower w c
+    (after_follower_reading s.options (follower_samples c w.entries) seen place)
 
 -- the next step of the follower of clock c from its place, where it has one that is due
 abbrev pub follower_step : Scenario → World → ℕ → Follower → FollowerPlace → Option Step
 follower_step s w c f Turns_next =
     if is_due s (turn_tick s f) then
-    Some
-    (Event
-    (follower_event s w c (Turn c (turn_tick s f))
-    (λ e. turn_place (turn_tick s f) (told_lead e))))
+    Some (Event (follower_event s w c (Turn c (turn_tick s f))))
     else
     None
 follower_step s w c f (Reads_theirs tick lead) =
-    Some (Free (with_follower w c (Reads_own tick lead (seen_of s w lead.source tick))))
-follower_step s w c f (Reads_own tick lead theirs) = Some (Free (with_follower w c (acting (seen_of s w c tick))))
-  where
-    acting : Seen → FollowerPlace
-    acting own = follower_job tick lead theirs own
-        (newest_action (servo_of s.options)
-        (sample_of lead theirs own ∷ follower_samples c w.entries))
+    Some
+    (Free (follower_reading s w c (seen_of s w lead.source tick) (Reads_theirs tick lead)))
+follower_step s w c f (Reads_own tick lead theirs) =
+    Some (Free (follower_reading s w c (seen_of s w c tick) (Reads_own tick lead theirs)))
 follower_step s w c f (Exchanges_own tick lead theirs own action) = Some (Free (after (exchange_result s.options.seat_rows (held_by c lead) tick action (log_at w.logs c))))
   where
     after : Outcome × List LogEntry → World
     after x = with_follower (record w { logs = slice_set w.logs c x.1 }) c
-        (Samples tick lead theirs own action x.0)
+        (after_follower_exchange x.0 (Exchanges_own tick lead theirs own action))
 follower_step s w c f (Samples tick lead theirs own action outcome) =
-    Some
-    (Event
-    (follower_event s w c (Sampled c tick lead theirs own action outcome) (λ e. Turns_next)))
+    Some (Event (follower_event s w c (Sampled c tick lead theirs own action outcome)))
 
 -- the next query as a step, where it is due
 abbrev pub query_step : Scenario → World → Option Asked → Option Step
