@@ -7,6 +7,7 @@ mod boundary_clock;
 mod decision;
 mod event;
 mod hub_port;
+mod moment;
 mod moves;
 mod opening;
 mod scratch;

@@ -3,13 +3,15 @@ ghost use Rattle.model_clock.specs.Clock.{IsClock};
 ghost use Rattle.ptp_base.specs.Floor.{IsWithin};
 ghost use Rattle.ptp_profile.specs.Roles.SeatLogs.{change_of, exchange_answer, logs_from, with_orders, HasOrder, IsRefusal};
 ghost use Rattle.discipline_seat.specs.SeatsView.{log_of, reading_of, with_entry};
+ghost use Rattle.ptp_profile.specs.Roles.Edges.{edge_at, lead_by, slave_port};
 ghost use Rattle.bc_history.specs.declared.scenario.Scenario.{Scenario};
+ghost use Rattle.bc_history.specs.Phases.NoticePhase.{notice_for};
 ghost use Rattle.bc_history.specs.Phases.OpeningState.{opening};
 ghost use Rattle.bc_history.specs.Phases.RolePhase.{clocks_of, states_of};
 ghost use Rattle.bc_history.specs.Phases.State.{Core, Roles as HistoryRoles};
 ghost use Rattle.bc_history.specs.Phases.Step.{held_of};
-ghost use Rattle.bc_roles.specs.RolesView.{no_roles, AdvanceYields, IsSameTable, RolesRepresent};
-ghost use Rattle.bc_roles.specs.Stamps.{held_at};
+ghost use Rattle.bc_roles.specs.RolesView.{no_roles, notice_at, AdvanceYields, IsSameTable, RolesRepresent};
+ghost use Rattle.bc_roles.specs.Stamps.{held_at, stamp_at};
 
 use crate::orders::{draft, go_on, place_edges};
 use discipline_seat::PlainSeats;
@@ -18,7 +20,7 @@ use ptp_base::{
     CLOCKS_MAX, ENTRIES_MAX, FREQ_MAX, Items, NoMemory, PORTS_MAX, PortId, PortState, ROWS_MAX,
     Room, TICK_MAX, TIME_MAX,
 };
-use ptp_profile::{Edge, Held, Logs, Reading, Receipt, Refused, RoleOrder, Stamp};
+use ptp_profile::{Edge, Held, Lead, Logs, Notice, Reading, Receipt, Refused, RoleOrder, Stamp};
 use role_gen::Generations;
 use std::alloc::Global;
 use std::marker::Model;
@@ -103,6 +105,46 @@ impl Roles {
             clock,
             gener: stamp.gener,
             ctrl: stamp.ctrl,
+        }
+    }
+
+    /// The number of the generation, from 1, or 0 before the first. Does not allocate.
+    pub fn generation(&self) -> u32
+        ensures { result ≡ self.now.generation.gener }
+    {
+        self.generations.generation()
+    }
+
+    /// What the follower of a clock copies by the clock's edge, with the generation of the clock's
+    /// last order.
+    fn lead(&self, clock: u8) -> Option<Lead>
+        requires there { clock < length self.now.stamps }
+        ensures { result
+            ≡ lead_by (stamp_at self.now.stamps clock).gener
+            (edge_at self.now.generation.edges clock) }
+    {
+        let edge = self.generations.edges()[clock as usize];
+        match edge {
+            Some(Edge::Follow { source }) => Some(Lead {
+                gener: self.stamps[clock as usize].gener,
+                source,
+            }),
+            Some(Edge::Port { .. }) | None => None,
+        }
+    }
+
+    /// What the follower of a clock is told of the present generation, where `slave` is the number
+    /// of the port in SLAVE, from 1, or 0 for none. The clock is there. Does not allocate.
+    pub fn notice(&self, clock: u8, slave: u16) -> Notice
+        requires there { clock < length self.now.stamps }
+        ensures exact { result ≡ notice_at self.now clock slave }
+        ensures history { (c : Core) (r : HistoryRoles) → RolesRepresent self.now r
+            → slave ≡ slave_port (states_of c.ports) → result ≡ notice_for c r clock }
+    {
+        Notice {
+            gener: self.generations.generation(),
+            slave,
+            lead: self.lead(clock),
         }
     }
 

@@ -3,7 +3,7 @@ ghost use Rattle.std.specs.Prelude.{◌≡◌, ◌+◌, ◌<◌, ◌≤◌, leng
 use crate::*;
 use model_clock::ClockState;
 use ptp_base::{ClockId, Items, NoMemory, PortId, PortState, Room};
-use ptp_profile::{Held, LogEntry, Logs, Reading, Receipt, Refused, RoleOrder};
+use ptp_profile::{Held, Lead, LogEntry, Logs, Notice, Reading, Receipt, Refused, RoleOrder};
 use std::alloc::Global;
 
 const REST: ClockState = ClockState {
@@ -37,6 +37,30 @@ fn told(alloc: Global, roles: &mut Roles, state: PortState) -> Result<Items<Role
     roles.reserve()?;
     let out = Room::with(alloc, 4)?;
     Ok(roles.advance(&[state], &[1], parent, out))
+}
+
+/// What the followers of both clocks are told while the port is locked, and the generation.
+fn notices(alloc: Global) -> Result<(Notice, Notice, u32), NoMemory> {
+    let mut roles = two(alloc)?;
+    let _orders = told(alloc, &mut roles, PortState::Slave)?;
+    Ok((roles.notice(0, 1), roles.notice(1, 1), roles.generation()))
+}
+
+#[test]
+fn a_follower_copies_the_clock_of_the_port(rt: HostRuntime) {
+    let notice = |lead| Notice {
+        gener: 1,
+        slave: 1,
+        lead,
+    };
+    let lead = Lead {
+        gener: 1,
+        source: 1,
+    };
+    assert_eq!(rt;
+        notices(rt.alloc()).ok(),
+        Some((notice(Some(lead)), notice(None), 1))
+    );
 }
 
 /// What is told as the port begins to follow, locks, and loses its lock, what clock 0 then reads,

@@ -1,8 +1,11 @@
--- What an event of a port tells.
-use Rattle.std.specs.Prelude.{ℕ, List, [], None}
+-- What an event of a port tells, and one of a follower.
+use Rattle.std.specs.Prelude.{ℕ, List, [], Option, None}
 use Rattle.ptp_profile.specs.declared.roles.RoleOrder.{RoleOrder}
 use Rattle.bc_history.specs.declared.entry.Effects.{Effects}
+use Rattle.bc_history.specs.declared.entry.Entry.{Entry}
+use Rattle.bc_history.specs.declared.entry.Input.{Input}
 use Rattle.bc_history.specs.declared.entry.Sent.{Sent}
+use Rattle.bc_history.specs.declared.entry.Told.{Told}
 use Rattle.bc_ports.specs.declared.event.EventOutcome.{EventOutcome}
 
 -- a frame of a port
@@ -21,4 +24,24 @@ effects_with outcome orders frames = record {
   told = None;
   asked = None;
   answers = [];
+}
+
+-- the entry of a follower tells what the follower is told, and nothing else
+abbrev pub follower_entry : Input → ℕ → Option Told → Entry
+follower_entry input moment told = record {
+  input = input;
+  moment = moment;
+  seen = None;
+  effects =
+      record {
+        fate = None;
+        states = [];
+        parent = None;
+        orders = [];
+        measure = None;
+        frames = [];
+        told = told;
+        asked = None;
+        answers = [];
+      };
 }

@@ -1,4 +1,5 @@
 pub mod PortReading
+pub mod FollowerInputs
 pub mod EffectRooms
 pub mod EffectParts
 pub mod HubParts

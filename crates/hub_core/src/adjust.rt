@@ -1,6 +1,7 @@
 ghost use Rattle.ptp_base.specs.declared.time.TheConstants.{FREQ_MAX, TICK_MAX, TIME_MAX};
 ghost use Rattle.std.specs.Prelude.{◌≡◌, ◌≢◌, ◌<◌, ◌≤◌, length, IfOk, OnErr, OnOk};
 ghost use Rattle.ptp_base.specs.Floor.{IsWithin};
+ghost use Rattle.model_clock.specs.Clock.{IsClock};
 ghost use Rattle.ptp_profile.specs.Roles.SeatLogs.{change_of, exchange_answer, log_at, HasOrder};
 ghost use Rattle.hub_core.specs.HubView.{clock_reading, with_change, IsAnswerOf};
 
@@ -33,6 +34,7 @@ impl Hub {
     pub fn read(&self, clock: u8) -> Reading
         requires there { clock < length self.now.scenario.clocks }
         ensures reading { result ≡ clock_reading self.now clock }
+        ensures state { IsClock result.state }
     {
         self.machine.roles.read(clock)
     }

@@ -1,8 +1,8 @@
 ghost use Rattle.std.specs.Prelude.{◌≡◌, length, map};
-ghost use Rattle.hub_core.specs.EffectParts.{effects_with, sent_by};
+ghost use Rattle.hub_core.specs.EffectParts.{effects_with, follower_entry, sent_by};
 ghost use Rattle.hub_core.specs.EffectRooms.{HasPlacesFor};
 
-use bc_history::{Effects, RoleOrders, Sends, Sent};
+use bc_history::{Effects, Entry, Input, RoleOrders, Sends, Sent, Told};
 use bc_ports::EventOutcome;
 use port_engine::Frames;
 use ptp_base::{Items, Room};
@@ -45,5 +45,27 @@ pub fn effects_with(
         told: None,
         asked: None,
         answers: Items::new(alloc),
+    }
+}
+
+/// The entry of a follower, at a moment in ns: it tells what the follower is told, and nothing else.
+pub fn follower_entry(alloc: Global, input: Input, moment: u64, told: Option<Told>) -> Entry
+    ensures { result ≡ follower_entry input moment told }
+{
+    Entry {
+        input,
+        moment,
+        seen: None,
+        effects: Effects {
+            fate: None,
+            states: Items::new(alloc),
+            parent: None,
+            orders: Items::new(alloc),
+            measure: None,
+            frames: Items::new(alloc),
+            told,
+            asked: None,
+            answers: Items::new(alloc),
+        },
     }
 }

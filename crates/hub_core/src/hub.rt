@@ -9,12 +9,12 @@ ghost use Rattle.bc_history.specs.Scenario.ScenarioRules.{IsScenario};
 ghost use Rattle.bc_history.specs.Run.NextInputs.{IsDue};
 ghost use Rattle.bc_history.specs.Phases.HubPort.{HubPort};
 ghost use Rattle.bc_history.specs.Phases.Step.{state_of};
-ghost use Rattle.hub_core.specs.HubView.{AreLawfulLogs, HubState, IsMeasuredTime, IsPortInput, draft_entry, entry_by, newest_seen, hub_at_opening, reading_at, with_entry};
+ghost use Rattle.hub_core.specs.FollowerInputs.{IsServed};
+ghost use Rattle.hub_core.specs.HubView.{AreLawfulLogs, HubState, IsMeasuredTime, draft_entry, entry_by, newest_seen, hub_at_opening, reading_at, with_entry};
 
 use crate::effect_copies::trimmed_entry;
 use crate::effect_rooms::{EffectCopies, EffectRooms};
 use crate::hub_parts::HubParts;
-use crate::own_input::port_input;
 use bc_history::{Effects, Entries, Entry, Input, Logs, Scenario};
 use ptp_base::{ENTRIES_MAX, Items, NoMemory};
 use ptp_profile::Timer;
@@ -79,13 +79,13 @@ impl Hub {
         })
     }
 
-    /// One event of a port: the history has one entry more, with the reading of the port's clock where
-    /// the input comes with one, and its orders stand in the logs. The input is its port's next one,
-    /// and due. Events exactly where the history has `ENTRIES_MAX` entries. A refusal leaves the hub
-    /// as it was.
+    /// One event of a port or of a follower: the history has one entry more, with the reading of the
+    /// port's clock where the input comes with one, and its orders stand in the logs. The input is the
+    /// next one of its port or its follower, and due. Events exactly where the history has
+    /// `ENTRIES_MAX` entries. A refusal leaves the hub as it was.
     pub fn event(&mut self, input: Input) -> Result<Effects, HubError>
         requires due { IsDue self.old.scenario (state_of self.old.scenario self.old.entries) input }
-        requires own { IsPortInput input }
+        requires own { IsServed input }
         ensures events { (result ≡ Err HubError.Events) ↔ (length self.old.entries ≡ ENTRIES_MAX) }
         ensures entry { OnOk result (self.new
             ≡ with_entry self.old (entry_by self.old input (newest_seen self.new.entries))) }
@@ -105,7 +105,7 @@ impl Hub {
         self.machine.roles.reserve()?;
         let last = self.entries.len();
         self.entries.push(draft(self.alloc))?;
-        let entry = self.machine.serve(self.alloc, port_input(input), rooms);
+        let entry = self.machine.take(self.alloc, input, rooms);
         let effects = copies.of(self.alloc, &entry.effects);
         self.entries.set(last, trimmed_entry(entry));
         Ok(effects)

@@ -11,17 +11,20 @@ ghost use Rattle.bc_history.specs.Phases.Step.{state_of};
 ghost use Rattle.bc_history.specs.Run.World.{seen_at};
 ghost use Rattle.hub_core.specs.HubParts.{IsAt, PartsRepresent, PartsYield};
 ghost use Rattle.hub_core.specs.EffectRooms.{AreFew, AreRooms};
+ghost use Rattle.hub_core.specs.FollowerInputs.{IsServed};
 
 use crate::effect_rooms::EffectRooms;
 use crate::effects::{effects_with, sends_of};
-use crate::own_input::history_input;
-use bc_history::{Entry, PortEntry, PortHappening, PortInput, Seen};
+use crate::own_input::{history_input, is_of_follower, port_input};
+use bc_history::{Entry, Input, PortEntry, PortHappening, PortInput, Seen};
+use bc_notices::{Notice, Notices};
 use bc_ports::BoundaryClock;
 use bc_roles::Roles;
 use ptp_base::{PortState, Room};
 use std::alloc::Global;
 
-/// All that a hub keeps of its history but the entries: ports and data sets, roles and logs.
+/// All that a hub keeps of its history but the entries: ports and data sets, roles and logs, and what
+/// waits for followers.
 #[derive(Drop)]
 pub struct HubParts {
     /// The clock of each port, by rising port.
@@ -32,6 +35,10 @@ pub struct HubParts {
     pub roles: Roles,
     /// A place for the state of each port, so that an event does not allocate.
     pub states: Room<PortState>,
+    /// What waits for the followers.
+    pub notices: Notices,
+    /// A place for the notice of each follower.
+    pub drafts: Room<Notice>,
 }
 
 /// What was read, in ns, or 0 where nothing was.
@@ -76,13 +83,13 @@ impl HubParts {
 
     /// All that an input of a port does: the entry that it makes, in rooms that are large enough.
     /// Does not allocate.
-    pub fn serve(&mut self, alloc: Global, input: PortInput, rooms: EffectRooms) -> Entry
-        requires at { IsAt self.old input }
+    fn serve(&mut self, alloc: Global, input: PortInput, rooms: EffectRooms) -> Entry
+        requires at { IsAt self.old (history_input input) }
         requires rooms { AreRooms self.old.core.ports.len (length self.old.roles.stamps) rooms }
         ensures served { (s : Scenario) (entries : List Entry) → IsScenario s →
             PartsRepresent s self.old (state_of s entries) →
             IsDue s (state_of s entries) (history_input input) →
-            PartsYield s entries self.old.roles.seats.logs input self.new result }
+            PartsYield s entries self.old.roles.seats.logs (history_input input) self.new result }
         ensures logs { self.new.roles.seats.logs
             ≡ with_orders self.old.roles.seats.logs result.effects.orders }
         ensures gener { self.new.roles.generation.gener ≤ self.old.roles.generation.gener + 1 }
@@ -107,17 +114,40 @@ impl HubParts {
         let outcome = self
             .core
             .serve(&entry, &mut frames, moves, &mut self.states);
+        let before = self.roles.generation();
         let orders = self.roles.advance(
             self.states.items(),
             &self.port_clocks,
             self.core.sets.parent,
             orders,
         );
+        self.post(before);
         Entry {
             input: history_input(entry.input),
             moment: self.core.moment,
             seen,
             effects: effects_with(alloc, outcome, orders, sends_of(number, frames, sends)),
+        }
+    }
+
+    /// All that an input of a port or of a follower does: the entry that it makes, in rooms that are
+    /// large enough. Does not allocate.
+    pub fn take(&mut self, alloc: Global, input: Input, rooms: EffectRooms) -> Entry
+        requires at { IsAt self.old input }
+        requires own { IsServed input }
+        requires rooms { AreRooms self.old.core.ports.len (length self.old.roles.stamps) rooms }
+        ensures served { (s : Scenario) (entries : List Entry) → IsScenario s →
+            PartsRepresent s self.old (state_of s entries) → IsDue s (state_of s entries) input →
+            PartsYield s entries self.old.roles.seats.logs input self.new result }
+        ensures logs { self.new.roles.seats.logs
+            ≡ with_orders self.old.roles.seats.logs result.effects.orders }
+        ensures gener { self.new.roles.generation.gener ≤ self.old.roles.generation.gener + 1 }
+        ensures few { AreFew self.old.core.ports.len (length self.old.roles.stamps) result.effects }
+    {
+        if is_of_follower(&input) {
+            self.follow(alloc, input)
+        } else {
+            self.serve(alloc, port_input(input), rooms)
         }
     }
 }

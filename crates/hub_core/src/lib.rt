@@ -1,12 +1,14 @@
 //! The hub of a boundary clock, one event at a time: the input of a port is its own event, and then
 //! a decision for all ports (IEEE 1588-2019, 9.2 and 9.3); from the ports' states follows what drives
-//! each clock. `Hub` keeps the history, whose entries tell all of that, and the clocks' logs.
+//! each clock, and what its followers are told. `Hub` keeps the history, whose entries tell all of
+//! that, and the clocks' logs.
 #![tactic(auto)]
 
 mod adjust;
 mod effect_copies;
 mod effect_rooms;
 mod effects;
+mod followers;
 mod hub;
 mod hub_parts;
 mod opening;

@@ -6,6 +6,7 @@ ghost use Rattle.hub_core.specs.HubParts.{PartsRepresent};
 
 use crate::hub_parts::HubParts;
 use bc_history::Scenario;
+use bc_notices::Notices;
 use bc_ports::BoundaryClock;
 use bc_roles::Roles;
 use ptp_base::{NoMemory, PortConf, Room};
@@ -36,6 +37,8 @@ impl HubParts {
             core: BoundaryClock::new(alloc, s)?,
             roles: Roles::new(alloc, s.clocks.items(), s.options.seat_rows)?,
             states: Room::with(alloc, s.ports.len())?,
+            notices: Notices::new(alloc, s)?,
+            drafts: Room::with(alloc, s.clocks.len())?,
         })
     }
 }

@@ -1,5 +1,6 @@
 ghost use Rattle.std.specs.Prelude.{◌≡◌, Some};
-ghost use Rattle.bc_history.specs.Phases.Inputs.{history_input, port_input};
+ghost use Rattle.bc_history.specs.Phases.Inputs.{history_input, port_input, tick_of};
+ghost use Rattle.hub_core.specs.FollowerInputs.{is_of_follower};
 ghost use Rattle.hub_core.specs.HubView.{IsPortInput};
 
 use bc_history::{Input, PortHappening, PortInput};
@@ -32,6 +33,29 @@ pub fn port_input(input: Input) -> PortInput
         Input::Turn { .. } | Input::Sampled { .. } | Input::Query { .. } => unreachable!(),
     };
     PortInput { number, tick, what }
+}
+
+/// The tick of an input, in ns of the scenario.
+pub fn tick_of(input: &Input) -> u64
+    ensures { result ≡ tick_of input.now }
+{
+    match input {
+        Input::Frame { tick, .. }
+        | Input::Timed { tick, .. }
+        | Input::Down { tick, .. }
+        | Input::Up { tick, .. }
+        | Input::Report { tick, .. }
+        | Input::Turn { tick, .. }
+        | Input::Sampled { tick, .. }
+        | Input::Query { tick, .. } => *tick,
+    }
+}
+
+/// Whether an input is a follower's: a turn or a sample.
+pub fn is_of_follower(input: &Input) -> bool
+    ensures { result ≡ is_of_follower input.now }
+{
+    matches!(input, Input::Turn { .. } | Input::Sampled { .. })
 }
 
 /// A port's own input as one of the history.

@@ -52,6 +52,14 @@ taken_of notices = record {
   missed = length notices - NOTICES_MAX;
 }
 
+-- what a ring tells as it is taken
+abbrev pub taken_from : RingView → Taken
+taken_from ring = record {
+  last = slice_get ring.notices 0;
+  count = min ring.put NOTICES_MAX;
+  missed = ring.put - NOTICES_MAX;
+}
+
 -- there are places for the notices, and as many are kept as were put and have one
 pub record IsSound (notices : List Notice) (places put : ℕ) : Type 0 where
   pub reserved : places ≡ NOTICES_MAX

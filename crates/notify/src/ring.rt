@@ -1,6 +1,6 @@
 ghost use Rattle.std.specs.Prelude.{◌≡◌, ◌<◌, [], IfOk, if◌then◌else◌};
 ghost use Rattle.notify.specs.declared.ring.TheConstants.{PUT_MAX};
-ghost use Rattle.notify.specs.RingView.{RingState, RingRepresents, unsubscribed, is_subscribed, with_notice, taken_of, after_post};
+ghost use Rattle.notify.specs.RingView.{RingState, RingRepresents, unsubscribed, is_subscribed, with_notice, taken_from, taken_of, after_post};
 
 use circular_buffer::HeapCircularBuffer;
 use ptp_base::{NOTICES_MAX, NoMemory};
@@ -101,6 +101,7 @@ impl Ring {
     pub fn take(&mut self) -> Taken
         ensures answer { (state : RingState) → RingRepresents self.old state →
             result ≡ taken_of state.notices }
+        ensures taken { result ≡ taken_from self.old }
         ensures exact { self.new ≡ record self.old { notices = []; put = 0 } }
         ensures represents { (state : RingState) → RingRepresents self.old state →
             RingRepresents self.new (record state { notices = [] }) }

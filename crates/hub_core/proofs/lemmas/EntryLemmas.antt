@@ -1,5 +1,5 @@
 -- What the machine made of an input that was due is the history's next entry.
-use Rattle.std.proofs.Common.{◌≡◌, ℕ, ◌≤◌, List, [], ◌∷◌, length, map, refl, sym, ap, subst, ◌∙◌, arith, Option, Some, None}
+use Rattle.std.proofs.Common.{◌≡◌, ℕ, ◌+◌, ◌≤◌, List, [], ◌∷◌, length, map, refl, sym, ap, subst, ◌∙◌, arith, Option, Some, None}
 use Rattle.std.proofs.lemmas.List.{length-map}
 use Rattle.ptp_base.specs.declared.identity.PortId.{PortId}
 use Rattle.ptp_profile.specs.declared.port_event.Fate.{Fate}
@@ -21,11 +21,13 @@ use Rattle.bc_history.specs.declared.scenario.Options.{Options}
 use Rattle.bc_history.specs.declared.scenario.Scenario.{Scenario}
 use Rattle.bc_history.specs.Phases.EntryEffects.{changed_parent, effects_of, entry_after, event, frames_at, moves_from, told_by}
 use Rattle.bc_history.specs.Phases.Inputs.{history_input, input_with, port_at, value_of}
+use Rattle.bc_history.specs.Phases.NoticePhase.{after_notices, after_turn}
 use Rattle.bc_history.specs.Phases.QueryAnswers.{answers_at, asked_at}
 use Rattle.bc_history.specs.Phases.RolePhase.{after_roles, clocks_of, orders_now, states_of}
 use Rattle.bc_history.specs.Phases.State.{Core, Event, Follower, Roles, State}
 use Rattle.bc_history.specs.Phases.HubPort.{HubPort}
 use Rattle.bc_history.specs.Phases.Step.{core_after, followers_between, held_of, last_measure, roles_after, state_of, step}
+use Rattle.bc_notices.specs.NoticesView.{FollowersRepresent, NoticesRepresent}
 use Rattle.bc_ports.specs.declared.boundary_clock.BoundaryClock.{BoundaryClock}
 use Rattle.bc_ports.specs.declared.event.EventOutcome.{EventOutcome}
 use Rattle.bc_ports.specs.ClockYield.{EventYields, core_at, core_decided, core_ported, measure_of}
@@ -120,6 +122,7 @@ pub record IsSameMachine (m new : HubParts) : Type 0 where
   pub ports : new.core.ports.len ≡ m.core.ports.len
   pub table : IsSameTable m.roles new.roles
   pub listed : length new.states.items ≡ m.core.ports.len
+  pub drafts : length m.drafts.items + m.drafts.spare ≤ length new.drafts.items + new.drafts.spare
 
 -- one entry more is one step more
 state-next : (s : Scenario) (entries : List Entry) (e : PortEntry) (seen : Option Seen) → state_of s (entry_after s entries (history_input e.input) seen ∷ entries) ≡ step s.options (state_of s entries) (event (history_input e.input) seen)
@@ -163,10 +166,34 @@ stepped o h e q seen new frames made orders is =
     let R : Core → Type 0 = λ c. RolesRepresent new.roles (after_roles c h.roles) in
     record { core = subst M (sym measure) (subst C (sym after) is.yields.clock); roles = subst R (sym after) is.went.roles }
 
+-- the followers after the generation that an entry of a port begins
+abbrev pub followers_by : Options → PortEntry → State → List Follower
+followers_by o e h = after_notices o (core_decided o e h.core) h.roles (after_roles (core_decided o e h.core) h.roles) h.followers
+
+-- an input of a port tells its own follower nothing
+turned-with : (o : Options) (c : Core) (r : Roles) (number tick : ℕ) (what : PortHappening) (fs : List Follower) → after_turn o c r (input_with number tick what) fs ≡ fs
+unfolding after_turn
+turned-with o c r number tick (Frame_arrives octets) fs = refl
+turned-with o c r number tick (Timer_fires timer) fs = refl
+turned-with o c r number tick Goes_down fs = refl
+turned-with o c r number tick Comes_up fs = refl
+turned-with o c r number tick (Reports gener action outcome) fs = refl
+
+-- so the followers of the next step are these
+followers-stepped : (o : Options) (h : State) (e : PortEntry) (q : HubPort) (seen : Option Seen) → port_at h.core.ports e.input.number ≡ Some q → e.held ≡ held_of q.port.conf.clock h.roles.orders → e.reading ≡ value_of seen
+    → (step o h (event (history_input e.input) seen)).followers ≡ followers_by o e h
+unfolding step
+followers-stepped o h e q seen there held reading =
+    let ev : Event = event (history_input e.input) seen in
+    let after = after-is o h e seen (entry-is h q seen e there held reading) in
+    turned-with o (core_after o h ev) (roles_after o h ev) e.input.number e.input.tick e.input.what (followers_between o h ev)
+    ∙ ap (λ (c : Core). after_notices o c h.roles (after_roles c h.roles) h.followers) after
+
 pub machine-next : (s : Scenario) (entries : List Entry) (e : PortEntry) (q : HubPort) (seen : Option Seen) (m new : HubParts) (frames : List (List ℕ)) (made : EventOutcome) (orders : List RoleOrder)
     → PartsRepresent s m (state_of s entries) → IsMade s.options (state_of s entries) e q seen new.core frames made new.roles orders → IsSameMachine m new
+    → NoticesRepresent s.options new.notices (followers_by s.options e (state_of s entries))
     → PartsRepresent s new (state_of s (entry_after s entries (history_input e.input) seen ∷ entries))
-machine-next s entries e q seen m new frames made orders was is same =
+machine-next s entries e q seen m new frames made orders was is same notices =
     let h = state_of s entries in
     let went = stepped s.options h e q seen new frames made orders is in
     let P : State → Type 0 = λ g. PartsRepresent s new g in
@@ -182,4 +209,6 @@ machine-next s entries e q seen m new frames made orders was is same =
       openings = same.table.openings ∙ was.openings;
       stamps = same.table.clocks ∙ was.stamps;
       places = omega (arith, listed);
+      notices = record { terms = notices.terms; followers = subst (λ (fs : List Follower). FollowersRepresent s.options new.notices.followers fs) (sym (followers-stepped s.options h e q seen is.there is.held is.reading)) notices.followers };
+      drafts = let before = was.drafts in let more = same.drafts in omega (arith, before, more);
     })

@@ -16,8 +16,8 @@ use Rattle.ptp_profile.specs.Roles.SeatLogs.{log_at, whole_reading, with_orders}
 use Rattle.ptp_profile.specs.Port.PortTimers.{due_of}
 use Rattle.bc_history.specs.declared.entry.Entry.{Entry}
 use Rattle.bc_history.specs.declared.entry.Input.{Input}
+use Rattle.bc_history.specs.declared.entry.Input.TheVariants.{Frame, Timed, Down, Up, Report, Turn, Sampled, Query}
 use Rattle.bc_history.specs.declared.entry.Seen.{Seen}
-use Rattle.bc_history.specs.declared.port_input.PortHappening.{PortHappening}
 use Rattle.bc_history.specs.declared.port_input.PortHappening.TheVariants.{Frame as Frame_arrives, Timed as Timer_fires, Down as Goes_down, Up as Comes_up, Report as Reports}
 use Rattle.bc_history.specs.declared.port_input.PortInput.{PortInput}
 use Rattle.bc_history.specs.declared.scenario.Scenario.{Scenario}
@@ -26,7 +26,7 @@ use Rattle.bc_history.specs.Run.History.{Continues, Follows, IsHistory}
 use Rattle.bc_history.proofs.lemmas.ArrivalLemmas.{measures-read}
 use Rattle.ptp_profile.specs.declared.seats.Held.{Held}
 use Rattle.ptp_profile.specs.declared.timing.Measure.{Measure}
-use Rattle.bc_history.specs.Phases.Inputs.{history_input, input_with, is_read, port_at, port_input, port_of, tick_of, IsReadTime, IsTime}
+use Rattle.bc_history.specs.Phases.Inputs.{history_input, is_read, port_at, port_input, port_of, tick_of, IsReadTime, IsTime}
 use Rattle.bc_history.specs.Run.NextInputs.{IsDue}
 use Rattle.bc_history.specs.Phases.OpeningState.{opening}
 use Rattle.bc_history.specs.Scenario.ScenarioRules.{IsScenario}
@@ -38,6 +38,7 @@ use Rattle.bc_ports.proofs.lemmas.RepresentationLemmas.{PortsRepresent-some}
 use Rattle.discipline_seat.specs.SeatsView.{Seats, with_entry as with_change_entry}
 use Rattle.bc_roles.specs.RolesView.{RolesRepresent, RolesView}
 use Rattle.hub_core.specs.HubView.{HubState, IsHub, IsMeasuredTime, entry_by, history_of, newest_seen, reading_at, with_entry}
+use Rattle.hub_core.specs.FollowerInputs.{IsServed}
 use Rattle.hub_core.specs.HubParts.{PartsYield, PartsRepresent}
 use Rattle.hub_core.specs.PortReading.{input_seen}
 use Rattle.hub_core.specs.declared.hub.Hub.TheInside.{Inside}
@@ -71,7 +72,7 @@ pub record IsRoomier (old new : RolesView) : Type 0 where
   pub same : new ≡ record old { seats = record old.seats { spare = spare } }
 
 abbrev with_roles : HubParts → RolesView → HubParts
-with_roles m r = record { port_clocks = m.port_clocks; core = m.core; roles = r; states = m.states }
+with_roles m r = record { port_clocks = m.port_clocks; core = m.core; roles = r; states = m.states; notices = m.notices; drafts = m.drafts }
 
 pub machine-roomier : (s : Scenario) (m : HubParts) (h : State) (r : RolesView) → PartsRepresent s m h → IsRoomier m.roles r → PartsRepresent s (with_roles m r) h
 machine-roomier s m h r was more =
@@ -86,6 +87,8 @@ machine-roomier s m h r was more =
       openings = was.openings;
       stamps = was.stamps;
       places = was.places;
+      notices = was.notices;
+      drafts = was.drafts;
     })
 
 pub gener-roomier : (old new : RolesView) → IsRoomier old new → new.generation.gener ≡ old.generation.gener
@@ -130,16 +133,20 @@ follows-after : (s : Scenario) (before : List Entry) (input : Input) (seen : Opt
 unfolding entry_after
 follows-after s before input seen due read = record { due = due; read = read; made = refl }
 
-queries-with : (number tick : ℕ) (what : PortHappening) (n : ℕ) → queries_after (input_with number tick what) n ≡ n
-queries-with number tick (Frame_arrives octets) n = refl
-queries-with number tick (Timer_fires timer) n = refl
-queries-with number tick Goes_down n = refl
-queries-with number tick Comes_up n = refl
-queries-with number tick (Reports gener action outcome) n = refl
+-- an input that is no query is not counted as one
+queries-served : (input : Input) (n : ℕ) → IsServed input → queries_after input n ≡ n
+queries-served (Frame port tick octets) n own = refl
+queries-served (Timed port tick timer) n own = refl
+queries-served (Down port tick) n own = refl
+queries-served (Up port tick) n own = refl
+queries-served (Report port tick gener action outcome) n own = refl
+queries-served (Turn clock tick) n own = refl
+queries-served (Sampled clock tick lead theirs ours action outcome) n own = refl
+queries-served (Query tick text) n own = absurd own
 
-queries-same : (s : Scenario) (before : List Entry) (p : PortInput) (seen : Option Seen) → (state_of s (entry_after s before (history_input p) seen ∷ before)).queries ≡ (state_of s before).queries
+queries-same : (s : Scenario) (before : List Entry) (input : Input) (seen : Option Seen) → IsServed input → (state_of s (entry_after s before input seen ∷ before)).queries ≡ (state_of s before).queries
 unfolding state_of step entry_after
-queries-same s before p seen = queries-with p.number p.tick p.what (state_of s before).queries
+queries-same s before input seen own = queries-served input (state_of s before).queries own
 
 -- an entry in the place of the draft at the end
 pub drafted : (es : List Entry) (draft e : Entry) → slice_set (es ++ draft ∷ []) (length es) e ≡ es ++ e ∷ []
@@ -162,50 +169,66 @@ seen-time true (Some c) read times = times c
 seen-time false conf read times = tt
 
 -- what an entry read is a time
-entry-time : (s : Scenario) (before : List Entry) (logs : List (List LogEntry)) (p : PortInput) (entry : Entry)
-    → entry ≡ entry_after s before (history_input p) (input_seen s logs (history_input p)) → IsReadTime entry
-entry-time s before logs p entry is =
-    let input = history_input p in
+entry-time : (s : Scenario) (before : List Entry) (logs : List (List LogEntry)) (input : Input) (entry : Entry)
+    → entry ≡ entry_after s before input (input_seen s logs input) → IsReadTime entry
+entry-time s before logs input entry is =
     let reading_is : entry.seen ≡ input_seen s logs input = ap (λ (e : Entry). e.seen) is ∙ seen-after s before input (input_seen s logs input) in
     subst (λ (x : Option Seen). IfSome x (λ (seen : Seen). IsTime seen.value)) (sym reading_is)
     (seen-time (is_read input) (option_and_then (port_at s.ports) (port_of input)) _
     (λ c. reading-time (whole_reading (clock_at s.clocks c.clock) (log_at logs c.clock)).state (tick_of input)))
 
+-- a port's own input comes with a reading where it is one that does
+port-read : (s : Scenario) (before : List Entry) (logs : List (List LogEntry)) (p : PortInput) → IsDue s (state_of s before) (history_input p)
+    → is_some (input_seen s logs (history_input p)) ≡ is_read (history_input p)
+port-read s before logs p due =
+    let at = due-port s (state_of s before) p due in
+    seen-some s logs p at.port (placed-at s before p.number at.port at.there)
+
+-- so does each input
+read-due : (s : Scenario) (before : List Entry) (logs : List (List LogEntry)) (input : Input) → IsServed input → IsDue s (state_of s before) input
+    → is_some (input_seen s logs input) ≡ is_read input
+read-due s before logs (Frame port tick octets) own due = port-read s before logs (record { number = port; tick = tick; what = Frame_arrives octets }) due
+read-due s before logs (Timed port tick timer) own due = port-read s before logs (record { number = port; tick = tick; what = Timer_fires timer }) due
+read-due s before logs (Down port tick) own due = port-read s before logs (record { number = port; tick = tick; what = Goes_down }) due
+read-due s before logs (Up port tick) own due = port-read s before logs (record { number = port; tick = tick; what = Comes_up }) due
+read-due s before logs (Report port tick gener action outcome) own due = port-read s before logs (record { number = port; tick = tick; what = Reports gener action outcome }) due
+read-due s before logs (Turn clock tick) own due = refl
+read-due s before logs (Sampled clock tick lead theirs ours action outcome) own due = refl
+read-due s before logs (Query tick text) own due = absurd own
+
 -- a hub that served one more input
-pub record HasTakenOne (i j : Inside) (input : Input) (p : PortInput) (logs : List (List LogEntry)) (entry : Entry) : Type 0 where
+pub record HasTakenOne (i j : Inside) (input : Input) (logs : List (List LogEntry)) (entry : Entry) : Type 0 where
   pub scenario : j.scenario.value ≡ i.scenario.value
-  pub own : port_input input ≡ Some p
-  pub served : PartsYield i.scenario.value (history_of i) logs p j.machine entry
+  pub own : IsServed input
+  pub served : PartsYield i.scenario.value (history_of i) logs input j.machine entry
   pub entries : j.entries ≡ i.entries ++ entry ∷ []
   pub asked : j.asked ≡ i.asked
   pub gener : j.machine.roles.generation.gener ≤ i.machine.roles.generation.gener + 1
   pub logs_before : logs ≡ i.machine.roles.seats.logs
   pub logs_after : j.machine.roles.seats.logs ≡ with_orders logs entry.effects.orders
 
-history-one : (i j : Inside) (input : Input) (p : PortInput) (logs : List (List LogEntry)) (entry : Entry) → HasTakenOne i j input p logs entry → history_of j ≡ entry ∷ history_of i
-history-one i j input p logs entry is = ap (λ (es : List Entry). reverse es) is.entries ∙ reverse_push i.entries entry
+history-one : (i j : Inside) (input : Input) (logs : List (List LogEntry)) (entry : Entry) → HasTakenOne i j input logs entry → history_of j ≡ entry ∷ history_of i
+history-one i j input logs entry is = ap (λ (es : List Entry). reverse es) is.entries ∙ reverse_push i.entries entry
 
-pub hub-next : (i j : Inside) (input : Input) (p : PortInput) (logs : List (List LogEntry)) (entry : Entry) → IsHub i → length i.entries < ENTRIES_MAX
-    → IsDue i.scenario.value (state_of i.scenario.value (history_of i)) input → HasTakenOne i j input p logs entry → IsHub j
-hub-next i j input p logs entry was few due is =
+pub hub-next : (i j : Inside) (input : Input) (logs : List (List LogEntry)) (entry : Entry) → IsHub i → length i.entries < ENTRIES_MAX
+    → IsDue i.scenario.value (state_of i.scenario.value (history_of i)) input → HasTakenOne i j input logs entry → IsHub j
+hub-next i j input logs entry was few due is =
     let s = i.scenario.value in
     let before = history_of i in
     let h = state_of s before in
-    let reading = input_seen s logs (history_input p) in
-    let own = own-due s h input p is.own due in
-    let at = due-port s h p own in
-    let read = seen-some s logs p at.port (placed-at s before p.number at.port at.there) in
-    let history : history_of j ≡ entry ∷ before = history-one i j input p logs entry is in
+    let reading = input_seen s logs input in
+    let read = read-due s before logs input is.own due in
+    let history : history_of j ≡ entry ∷ before = history-one i j input logs entry is in
     let move : (P : Scenario → List Entry → Type 0) → P s (entry ∷ before) → P j.scenario.value (history_of j) =
     λ P x. subst (λ (y : Scenario). P y (history_of j)) (sym is.scenario) (subst (λ (es : List Entry). P s es) (sym history) x) in
     let long = length-reverse i.entries in
     let more = ap (λ (es : List Entry). length es) is.entries ∙ length-append i.entries (entry ∷ []) in
-    let follows = subst (λ (e : Entry). Follows s before e) (sym is.served.entry_is) (follows-after s before (history_input p) reading own read) in
-    let asked = ap (λ (e : Entry). (state_of s (e ∷ before)).queries) is.served.entry_is ∙ queries-same s before p reading in
+    let follows = subst (λ (e : Entry). Follows s before e) (sym is.served.entry_is) (follows-after s before input reading due read) in
+    let asked = ap (λ (e : Entry). (state_of s (e ∷ before)).queries) is.served.entry_is ∙ queries-same s before input reading is.own in
     record {
       rules = subst (λ (x : Scenario). IsScenario x) (sym is.scenario) was.rules;
       history = move (λ x es. IsHistory x es) (record { few = omega (arith, few, long); continues = (follows, was.history.continues) });
-      times = move (λ x es. All IsReadTime es) (All-cons IsReadTime entry before (entry-time s before logs p entry is.served.entry_is) was.times);
+      times = move (λ x es. All IsReadTime es) (All-cons IsReadTime entry before (entry-time s before logs input entry is.served.entry_is) was.times);
       machine = move (λ x es. PartsRepresent x j.machine (state_of x es)) is.served.machine;
       gener = omega (arith, is.gener, was.gener, more);
       asked = move (λ x es. j.asked ≡ (state_of x es).queries) (is.asked ∙ (was.asked ∙ sym asked));
@@ -217,10 +240,10 @@ if_there None P each = tt
 if_there (Some m) P each = each m refl
 
 -- what the event measured bears a time that a clock read
-pub measured-time : (i j : Inside) (input : Input) (p : PortInput) (logs : List (List LogEntry)) (entry : Entry) → HasTakenOne i j input p logs entry
+pub measured-time : (i j : Inside) (input : Input) (logs : List (List LogEntry)) (entry : Entry) → HasTakenOne i j input logs entry
     → IsHub j → IsMeasuredTime entry.effects
-measured-time i j input p logs entry is now =
-    let history = history-one i j input p logs entry is in
+measured-time i j input logs entry is now =
+    let history = history-one i j input logs entry is in
     let s = j.scenario.value in
     let continues = subst (λ (es : List Entry). Continues s es) history now.history.continues in
     let times = subst (λ (es : List Entry). All IsReadTime es) history now.times in
@@ -236,30 +259,28 @@ same-hub : (s s' : Scenario) (es es' : List Entry) (ls ls' : List (List LogEntry
     → (let a : HubState = record { scenario = s; entries = es; logs = ls } in a) ≡ (let b : HubState = record { scenario = s'; entries = es'; logs = ls' } in b)
 same-hub s s' es es' ls ls' a b d = rw (a, b, d) refl
 
-newest-one : (i j : Inside) (input : Input) (p : PortInput) (logs : List (List LogEntry)) (entry : Entry) → HasTakenOne i j input p logs entry → newest_seen (history_of j) ≡ input_seen i.scenario.value logs (history_input p)
-newest-one i j input p logs entry is =
-    ap newest_seen (history-one i j input p logs entry is) ∙ ap (λ (e : Entry). e.seen) is.served.entry_is
-    ∙ seen-after i.scenario.value (history_of i) (history_input p) (input_seen i.scenario.value logs (history_input p))
+newest-one : (i j : Inside) (input : Input) (logs : List (List LogEntry)) (entry : Entry) → HasTakenOne i j input logs entry → newest_seen (history_of j) ≡ input_seen i.scenario.value logs input
+newest-one i j input logs entry is =
+    ap newest_seen (history-one i j input logs entry is) ∙ ap (λ (e : Entry). e.seen) is.served.entry_is
+    ∙ seen-after i.scenario.value (history_of i) input (input_seen i.scenario.value logs input)
 
 -- the newest entry has the reading that comes with the input
-pub reading-taken : (i j : Inside) (input : Input) (p : PortInput) (logs : List (List LogEntry)) (entry : Entry) → HasTakenOne i j input p logs entry → newest_seen (history_of j) ≡ reading_at (seen_of i) input
-reading-taken i j input p logs entry is =
-    newest-one i j input p logs entry is ∙ ap (λ (x : Input). input_seen i.scenario.value logs x) (history-again input p is.own)
-    ∙ ap (λ (ls : List (List LogEntry)). input_seen i.scenario.value ls input) is.logs_before
+pub reading-taken : (i j : Inside) (input : Input) (logs : List (List LogEntry)) (entry : Entry) → HasTakenOne i j input logs entry → newest_seen (history_of j) ≡ reading_at (seen_of i) input
+reading-taken i j input logs entry is =
+    newest-one i j input logs entry is ∙ ap (λ (ls : List (List LogEntry)). input_seen i.scenario.value ls input) is.logs_before
 
 -- the entry is the one that the input makes with that reading
-pub entry-taken : (i j : Inside) (input : Input) (p : PortInput) (logs : List (List LogEntry)) (entry : Entry) → HasTakenOne i j input p logs entry → entry ≡ entry_by (seen_of i) input (newest_seen (history_of j))
-entry-taken i j input p logs entry is =
+pub entry-taken : (i j : Inside) (input : Input) (logs : List (List LogEntry)) (entry : Entry) → HasTakenOne i j input logs entry → entry ≡ entry_by (seen_of i) input (newest_seen (history_of j))
+entry-taken i j input logs entry is =
     let s = i.scenario.value in
     let before = history_of i in
-    is.served.entry_is ∙ ap (λ (x : Option Seen). entry_after s before (history_input p) x) (sym (newest-one i j input p logs entry is))
-    ∙ ap (λ (x : Input). entry_after s before x (newest_seen (history_of j))) (history-again input p is.own)
+    is.served.entry_is ∙ ap (λ (x : Option Seen). entry_after s before input x) (sym (newest-one i j input logs entry is))
 
-pub hub-taken : (i j : Inside) (input : Input) (p : PortInput) (logs : List (List LogEntry)) (entry : Entry) → HasTakenOne i j input p logs entry
+pub hub-taken : (i j : Inside) (input : Input) (logs : List (List LogEntry)) (entry : Entry) → HasTakenOne i j input logs entry
     → seen_of j ≡ with_entry (seen_of i) (entry_by (seen_of i) input (newest_seen (history_of j)))
-hub-taken i j input p logs entry is =
-    let by = entry-taken i j input p logs entry is in
-    let history = history-one i j input p logs entry is ∙ ap (λ (e : Entry). e ∷ history_of i) by in
+hub-taken i j input logs entry is =
+    let by = entry-taken i j input logs entry is in
+    let history = history-one i j input logs entry is ∙ ap (λ (e : Entry). e ∷ history_of i) by in
     let logs_are = is.logs_after ∙ (ap (λ (ls : List (List LogEntry)). with_orders ls entry.effects.orders) is.logs_before ∙ ap (λ (e : Entry). with_orders i.machine.roles.seats.logs e.effects.orders) by) in
     same-hub _ _ _ _ _ _ is.scenario history logs_are
 
@@ -307,4 +328,6 @@ machine-exchanged s m h r result clock change was roles kept taken same =
       openings = table.openings ∙ was.openings;
       stamps = ap (λ (x : RolesView). length x.stamps) kept ∙ was.stamps;
       places = was.places;
+      notices = was.notices;
+      drafts = was.drafts;
     }

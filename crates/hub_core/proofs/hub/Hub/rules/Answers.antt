@@ -1,5 +1,4 @@
-use Rattle.std.proofs.Common.{List, ap, length, subst, sym, ◌∙◌}
-use Rattle.bc_history.specs.Phases.Step.{state_of}
+use Rattle.std.proofs.Common.{subst}
 use Rattle.hub_core.specs.HubView.{AreLawfulLogs, HubState}
 use Rattle.hub_core.proofs.hub.Hub.rules.Goals as goal
 

@@ -15,6 +15,7 @@ use Rattle.bc_history.specs.Scenario.ScenarioRules.{AreOptions}
 use Rattle.ptp_base.specs.declared.time.TheConstants.{TICK_MAX}
 use Rattle.bc_history.specs.Phases.EntryEffects.{entry_after}
 use Rattle.bc_history.specs.Phases.Inputs.{history_input, port_at}
+use Rattle.bc_history.specs.Phases.RolePhase.{after_roles}
 use Rattle.bc_history.specs.Phases.State.{State}
 use Rattle.bc_history.specs.Phases.HubPort.{HubPort}
 use Rattle.bc_history.specs.Phases.Step.{held_of, state_of}
@@ -28,13 +29,14 @@ use Rattle.hub_core.specs.declared.hub_parts.HubParts.{HubParts}
 use Rattle.hub_core.proofs.lemmas.PortEntryLemmas.{IsAtPort, IsPlaced, clock-is, clock-there, clocks-there, due-port, due-tick, placed-at, seen-is}
 use Rattle.hub_core.proofs.lemmas.EffectRoomLemmas.{few-frames, few-moves, sends-known, short-frames}
 use Rattle.hub_core.proofs.lemmas.EntryLemmas.{IsMade, clocks-decided, entry-made, frames-few, machine-next}
+use Rattle.hub_core.proofs.lemmas.FollowerEntryLemmas.{notices-clocks, notices-few}
 use Rattle.hub_core.proofs.hub_parts.HubParts.serve.Goals as goal
 
 -- the port of the input
-port-at : (m : HubParts) (p : PortInput) (w : IsAt m p) → IsAtPort (state_of w.scenario w.entries).core.ports p.number
+port-at : (m : HubParts) (p : PortInput) (w : IsAt m (history_input p)) → IsAtPort (state_of w.scenario w.entries).core.ports p.number
 port-at m p w = due-port w.scenario (state_of w.scenario w.entries) p w.due
 
-port-placed : (m : HubParts) (p : PortInput) (w : IsAt m p) → IsPlaced w.scenario p.number (port-at m p w).port
+port-placed : (m : HubParts) (p : PortInput) (w : IsAt m (history_input p)) → IsPlaced w.scenario p.number (port-at m p w).port
 port-placed m p w = placed-at w.scenario w.entries p.number (port-at m p w).port (port-at m p w).there
 
 -- the clock in the port's place is the port's
@@ -42,7 +44,7 @@ clock-of : (s : Scenario) (h : State) (m : HubParts) (p : PortInput) (q : HubPor
     → clock ≡ get_or m.port_clocks.items (p.number - 1) clock → clock ≡ q.port.conf.clock
 clock-of s h m p q clock machine placed at = clock-is s p.number q clock placed (at ∙ ap (λ (cs : List ℕ). get_or cs (p.number - 1) clock) machine.clocks)
 
-clock-below : (m : HubParts) (p : PortInput) (w : IsAt m p) (clock : ℕ) → clock ≡ get_or m.port_clocks.items (p.number - 1) clock → clock < length m.roles.stamps
+clock-below : (m : HubParts) (p : PortInput) (w : IsAt m (history_input p)) (clock : ℕ) → clock ≡ get_or m.port_clocks.items (p.number - 1) clock → clock < length m.roles.stamps
 clock-below m p w clock at =
     let placed = port-placed m p w in
     let there = clock-there w.scenario p.number (port-at m p w).port w.rules placed in
@@ -98,6 +100,21 @@ sends_of-requires c =
     let few = frames-few s.options h.core h.measured e at.port c.serve-outcome.new.self c.serve-outcome.new.frames.items c.serve-outcome.result at.there yields in
     record { empty = c.requires.rooms.sends.empty; places = omega (arith, few, c.requires.rooms.sends.places) }
 
+pub post-requires-clause-there : goal.post-requires-clause-there
+post-requires-clause-there c =
+    let w = c.requires.at in
+    let few = notices-clocks w.scenario c.args.self.now w.entries w.machine in
+    omega (arith, few, c.advance-orders.ensures.same.clocks)
+
+pub post-requires-clause-few : goal.post-requires-clause-few
+post-requires-clause-few c = let w = c.requires.at in notices-few w.scenario c.args.self.now w.entries w.machine w.few
+
+pub post-requires-clause-places : goal.post-requires-clause-places
+post-requires-clause-places c =
+    let w = c.requires.at in
+    let few = notices-clocks w.scenario c.args.self.now w.entries w.machine in
+    omega (arith, few, w.machine.stamps, w.machine.drafts)
+
 -- what the code made an entry of
 abbrev made_of : goal.After-effects_with → PortEntry
 made_of c = record { input = c.args.input; held = c.held.result; reading = to_z w64 (of_z w64 c.value_of.result) }
@@ -142,22 +159,26 @@ returns-clause-served c = λ s entries rules machine due.
     let q = at.port in
     let placed = placed-at s entries c.args.input.number q at.there in
     let is = made-at c s entries q machine at.there in
-    let new : HubParts = record { port_clocks = m.port_clocks; core = c.serve-outcome.new.self; roles = c.advance-orders.new.self; states = c.serve-outcome.new.states } in
-    let entry : Entry = record { input = c.history_input.result; moment = c.serve-outcome.new.self.moment; seen = seen; effects = c.effects_with.result } in
+    let before = c.generation-before.ensures ∙ machine.roles.gener in
+    let notices = c.post.ensures.posted s.options (core_decided s.options e h.core) (after_roles (core_decided s.options e h.core) h.roles) h.roles h.followers is.yields.clock.core is.went.roles before machine.notices in
+    let new : HubParts = record { port_clocks = m.port_clocks; core = c.serve-outcome.new.self; roles = c.advance-orders.new.self; states = c.serve-outcome.new.states; notices = c.post.new.self.notices; drafts = c.post.new.self.drafts } in
+    let entry : Entry = record { input = c.history_input.result; moment = c.post.new.self.core.moment; seen = seen; effects = c.effects_with.result } in
     let made = entry-made s entries e q seen c.serve-outcome.new.self c.serve-outcome.new.frames.items c.serve-outcome.result c.advance-orders.new.self c.advance-orders.result entry
-    is c.history_input.ensures refl refl (effects-by c) in
+    is c.history_input.ensures (ap (λ (x : HubParts). x.core.moment) c.post.ensures.same) refl (effects-by c) in
     let next = machine-next s entries e q seen m new c.serve-outcome.new.frames.items c.serve-outcome.result c.advance-orders.result machine is (record {
       clocks = refl;
       sound = c.serve-outcome.ensures.sound;
       ports = c.serve-outcome.ensures.length;
       table = c.advance-orders.ensures.same;
       listed = c.serve-outcome.ensures.listed;
-    }) in
+      drafts = c.post.ensures.places;
+    }) notices in
     let clock = clock-of s h m c.args.input q c.index-clock.result.now machine placed c.index-clock.ensures in
     let reading = seen-is s m.roles.seats.logs m.roles.seats.openings c.args.input q c.index-clock.result.now seen placed machine.openings clock c.seen-seen.ensures.seen in
     record {
       entry_is = made ∙ ap (λ (x : Option Seen). entry_after s entries (history_input c.args.input) x) reading;
-      machine = subst (λ (x : Entry). PartsRepresent s new (state_of s (x ∷ entries))) (sym made) next;
+      machine = subst (λ (x : Entry). PartsRepresent s c.post.new.self (state_of s (x ∷ entries))) (sym made)
+          (subst (λ (x : HubParts). PartsRepresent s x (state_of s (entry_after s entries (history_input e.input) seen ∷ entries))) (sym c.post.ensures.same) next);
     }
 
 pub returns-clause-few : goal.returns-clause-few

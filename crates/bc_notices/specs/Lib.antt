@@ -1,0 +1,2 @@
+pub mod FollowerView
+pub mod NoticesView
