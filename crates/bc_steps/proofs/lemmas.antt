@@ -1,8 +1,13 @@
 pub mod QueueLemmas
 pub mod ServoBoundLemmas
-pub mod ActorOpeningLemmas
+pub mod PortOpeningLemmas
 pub mod OwnPortLemmas
-pub mod ServedActorLemmas
-pub mod NextEventLemmas
+pub mod ServedPortLemmas
+pub mod PortEventLemmas
 pub mod EventStepLemmas
 pub mod FreeStepLemmas
+pub mod OwnFollowerLemmas
+pub mod ServedFollowerLemmas
+pub mod FollowerStepLemmas
+pub mod FollowerOpeningLemmas
+pub mod JobDueLemmas

@@ -7,7 +7,9 @@ use Rattle.bc_history.specs.declared.scenario.Scenario.{Scenario}
 use Rattle.bc_history.specs.Phases.Step.{state_of}
 use Rattle.bc_history.specs.Phases.Inputs.{holds}
 use Rattle.bc_history.specs.Run.Actors.{entries_of, is_by}
-use Rattle.bc_history.specs.Run.World.{Place, Of_port, Of_follower, Of_queries, World, due_by_end, place_of, with_place}
+use Rattle.bc_history.specs.declared.place.PortPlace.TheVariants.{Waits, Exchanges, Reports}
+use Rattle.bc_history.specs.declared.place.FollowerPlace.TheVariants.{Turns, ReadsTheirs, ReadsOwn, Exchanges as Follower_exchanges, Samples}
+use Rattle.bc_history.specs.Run.World.{Place, Of_port, Of_follower, Of_queries, World, due_by_end, is_due, place_of, with_place}
 use Rattle.hub_core.specs.HubView.{HubState}
 
 -- an actor: its scenario, who it is, its own entries, the newest first, and where it is in its job
@@ -17,11 +19,29 @@ pub record ActorState : Type 0 where
   pub entries : List Entry
   pub place : Place
 
--- a port acts so far; followers and queries do not yet
-abbrev pub IsPort : Who → Type 0
-IsPort (Port p) = Unit {0}
-IsPort (Follower c) = ⊥
-IsPort Queries = ⊥
+-- ports and followers act so far; queries do not yet
+abbrev pub IsActing : Who → Type 0
+IsActing (Port p) = Unit {0}
+IsActing (Follower c) = Unit {0}
+IsActing Queries = ⊥
+
+-- where an actor is before its first step
+abbrev pub place_at_opening : Who → Place
+place_at_opening (Port p) = Of_port Waits
+place_at_opening (Follower c) = Of_follower Turns
+place_at_opening Queries = Of_queries
+
+-- an actor in the middle of its job goes on with it before the run ends
+abbrev pub IsJobDue : Scenario → Place → Type 0
+IsJobDue s (Of_port Waits) = Unit {0}
+IsJobDue s (Of_port (Exchanges tick held action)) = is_due s tick ≡ true
+IsJobDue s (Of_port (Reports tick gener action outcome)) = is_due s tick ≡ true
+IsJobDue s (Of_follower Turns) = Unit {0}
+IsJobDue s (Of_follower (ReadsTheirs tick lead)) = is_due s tick ≡ true
+IsJobDue s (Of_follower (ReadsOwn tick lead theirs)) = is_due s tick ≡ true
+IsJobDue s (Of_follower (Follower_exchanges tick lead theirs own action)) = is_due s tick ≡ true
+IsJobDue s (Of_follower (Samples tick lead theirs own action outcome)) = is_due s tick ≡ true
+IsJobDue s Of_queries = Unit {0}
 
 -- a place is one of the actor's kind
 abbrev pub IsPlaceOf : Who → Place → Type 0

@@ -1,14 +1,16 @@
-//! Who acts in a run, one step at a time. An actor is a port: its job is an event of the hub, and
-//! where that gave a measure, the exchange of its servo's action, and its report. Events are steps
-//! of the hub; an exchange stands by itself, so that others may act between an event and it.
+//! Who acts in a run, one step at a time. An actor is a port or a follower. A port's job is an event
+//! of the hub, and where that gave a measure, the exchange of its servo's action, and its report. A
+//! follower's job is a turn, and where that told it whom to copy, a reading of that clock, a reading
+//! of its own, the exchange of its servo's action, and its sample. Events are steps of the hub; each
+//! reading and each exchange stands by itself, so that others may act in between.
 #![tactic(auto)]
 
 mod actor;
 mod exchange;
-mod job;
-mod queue;
-mod start;
-mod step;
+mod follower;
+mod port;
+mod servo_conf;
+mod ticks;
 
 pub use actor::Actor;
 pub use bc_history::Who;

@@ -28,11 +28,11 @@ use Rattle.bc_history.specs.Run.PortPlace.{place_by_entries}
 use Rattle.bc_history.specs.Run.World.{Event, is_inside, Place, World, port_event, port_reading, port_step, seen_at, step_from, step_of}
 use Rattle.bc_history.proofs.lemmas.PortEntriesLemmas.{port_of-by}
 use Rattle.hub_core.specs.HubView.{HubState, draft_entry, entry_by, reading_at, with_entry}
-use Rattle.bc_steps.specs.ActorInvariant.{IsActor, actor_view}
+use Rattle.bc_steps.specs.PortActors.{IsPortActor, port_actor_view}
 use Rattle.bc_steps.specs.ActorView.{ActorState, AddsOwn, due_tick, IsIn, IsLevel}
 use Rattle.bc_steps.specs.RecordQueue.{input_at, last_of, tick_at}
-use Rattle.bc_steps.specs.declared.actor.Actor.TheInside.{Inside}
-use Rattle.bc_steps.proofs.lemmas.NextEventLemmas.{IsNextEvent, has-input, next-event}
+use Rattle.bc_steps.specs.declared.port.actor.PortActor.TheInside.{Inside}
+use Rattle.bc_steps.proofs.lemmas.PortEventLemmas.{IsNextEvent, has-input, next-event}
 use Rattle.bc_steps.proofs.lemmas.OwnPortLemmas.{AreSameOwn, OwnPort, by_end, due-own, next-own, own-port, timer-own, timer_of}
 
 -- ---- the event is due
@@ -55,7 +55,7 @@ by_end-some duration (Some t) tick is = by (leb t duration) refl is
     by false late none = absurd (cc)
 
 -- in the actor's own scenario
-event-own : (i : Inside) (entries : List Entry) (input : Input) (tick : ℕ) → IsActor i
+event-own : (i : Inside) (entries : List Entry) (input : Input) (tick : ℕ) → IsPortActor i
     → AreSameOwn i entries → Continues i.scenario.value entries
     → input_at i.number i.place (last_of i.records.items) (timer_of i.scenario.value entries i.number) ≡ Some input
     → by_end i.duration (tick_at i.number i.place (last_of i.records.items) (timer_of i.scenario.value entries i.number)) ≡ Some tick
@@ -77,11 +77,11 @@ event-own i entries input tick is same continues takes at =
 
 -- what the code found, in the hub's scenario
 pub event-due : (i : Inside) (a : ActorState) (hub : HubState) (queue : List Record) (timer : Option (ℕ × Timer)) (input : Input) (tick : ℕ)
-    → IsActor i → actor_view i ≡ a → IsLevel hub a → Continues hub.scenario hub.entries → queue ≡ i.records.items
+    → IsPortActor i → port_actor_view i ≡ a → IsLevel hub a → Continues hub.scenario hub.entries → queue ≡ i.records.items
     → timer ≡ timer_of hub.scenario hub.entries i.number → input_at i.number i.place (last_of queue) timer ≡ Some input
     → due_tick hub a ≡ Some tick → IsDueEvent hub.scenario i hub.entries input tick
 event-due i a hub queue timer input tick is view level continues queued told takes at =
-    let level_of : IsLevel hub (actor_view i) = subst (IsLevel hub) (sym view) level in
+    let level_of : IsLevel hub (port_actor_view i) = subst (IsLevel hub) (sym view) level in
     let s = i.scenario.value in
     let entries = hub.entries in
     let same = level_of.entries in
@@ -91,7 +91,7 @@ event-due i a hub queue timer input tick is view level continues queued told tak
     ∙ ap (λ (t : Option (ℕ × Timer)). input_at i.number i.place (last_of i.records.items) t) timers) ∙ takes in
     let ticks =
     sym (due-own i entries is same)
-    ∙ ap (λ (x : Scenario). due_tick (record { scenario = x; entries = hub.entries; logs = hub.logs }) (actor_view i)) level_of.scenario
+    ∙ ap (λ (x : Scenario). due_tick (record { scenario = x; entries = hub.entries; logs = hub.logs }) (port_actor_view i)) level_of.scenario
     ∙ ap (λ (x : ActorState). due_tick hub x) view ∙ at in
     subst (λ (x : Scenario). IsDueEvent x i entries input tick) level_of.scenario
     (event-own i entries input tick is same (subst (λ (x : Scenario). Continues x entries) (sym level_of.scenario) continues) taken ticks)
@@ -157,7 +157,7 @@ event-alike w hub new p input seen entries logs reading made =
 
 -- the event of the actor is its step
 pub event-step : (i : Inside) (w : World) (hub new : HubState) (input : Input) (tick : ℕ) → IsDueEvent hub.scenario i hub.entries input tick
-    → IsIn w hub (actor_view i) → new ≡ with_entry hub (entry_by hub input (reading_at hub input))
+    → IsIn w hub (port_actor_view i) → new ≡ with_entry hub (entry_by hub input (reading_at hub input))
     → step_of hub.scenario w (Port i.number) ≡ Some (Event (after_entries hub.scenario w i.number new.entries new.logs))
 event-step i w hub new input tick is in_world made =
     let s = hub.scenario in
@@ -199,16 +199,16 @@ ready-by until tick o is le = ap (λ (x : Option ℕ). holds (λ t. leb t until)
 
 -- an actor inside that is due has an input
 pub some-input : (i : Inside) (a : ActorState) (hub : HubState) (queue : List Record) (timer : Option (ℕ × Timer)) (tick : ℕ)
-    → IsActor i → actor_view i ≡ a → IsLevel hub a → is_inside a.place ≡ true → queue ≡ i.records.items
+    → IsPortActor i → port_actor_view i ≡ a → IsLevel hub a → is_inside a.place ≡ true → queue ≡ i.records.items
     → timer ≡ timer_of hub.scenario hub.entries i.number → due_tick hub a ≡ Some tick
     → input_at i.number i.place (last_of queue) timer ≡ None → ⊥
 some-input i a hub queue timer tick is view level inside queued told at none =
-    let level_of : IsLevel hub (actor_view i) = subst (IsLevel hub) (sym view) level in
+    let level_of : IsLevel hub (port_actor_view i) = subst (IsLevel hub) (sym view) level in
     let timers = told ∙ ap (λ (x : Scenario). timer_of x hub.entries i.number) (sym level_of.scenario) in
     let found = λ (t : Option (ℕ × Timer)). tick_at i.number i.place (last_of i.records.items) t in
     let ticks =
     sym (due-own i hub.entries is level_of.entries)
-    ∙ ap (λ (x : Scenario). due_tick (record { scenario = x; entries = hub.entries; logs = hub.logs }) (actor_view i)) level_of.scenario
+    ∙ ap (λ (x : Scenario). due_tick (record { scenario = x; entries = hub.entries; logs = hub.logs }) (port_actor_view i)) level_of.scenario
     ∙ ap (λ (x : ActorState). due_tick hub x) view ∙ at in
     let ends = by_end-some i.duration (found (timer_of i.scenario.value hub.entries i.number)) tick ticks in
     let no =

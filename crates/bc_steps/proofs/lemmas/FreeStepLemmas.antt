@@ -33,11 +33,11 @@ use Rattle.bc_history.proofs.lemmas.MeasureLemmas.{measured_by-due}
 use Rattle.bc_history.proofs.lemmas.OptionRuleLemmas.{row_at}
 use Rattle.bc_history.proofs.lemmas.StampLemmas.{IsHeldByPort-somebody, kept-stamp}
 use Rattle.hub_core.specs.HubView.{HubState}
-use Rattle.bc_steps.specs.ActorInvariant.{IsActor, actor_view}
+use Rattle.bc_steps.specs.PortActors.{IsPortActor, port_actor_view}
 use Rattle.bc_steps.specs.ActorView.{ActorState, IsIn, IsLevel}
 use Rattle.bc_steps.specs.ExchangeBounds.{outcome_at, with_exchange}
-use Rattle.bc_steps.specs.declared.actor.Actor.TheInside.{Inside}
-use Rattle.bc_steps.proofs.lemmas.NextEventLemmas.{IsAtJob, job-own}
+use Rattle.bc_steps.specs.declared.port.actor.PortActor.TheInside.{Inside}
+use Rattle.bc_steps.proofs.lemmas.PortEventLemmas.{IsAtJob, job-own}
 use Rattle.bc_steps.proofs.lemmas.OwnPortLemmas.{AreSameOwn, OwnPort, own-port, there-at}
 
 -- ---- members
@@ -69,7 +69,7 @@ has-order wanted (o ∷ os) h =
     (λ same. eq-eqb o.clock wanted.clock (ap (λ (x : RoleOrder). x.clock) same)) (has-order wanted os) h
 
 -- an order of the history stands in the log of its clock
-log-has_order : (clock gener ctrl : ℕ) (orders : List RoleOrder) (logs : List (List LogEntry)) → AreLawful orders logs → clock < length logs
+pub log-has_order : (clock gener ctrl : ℕ) (orders : List RoleOrder) (logs : List (List LogEntry)) → AreLawful orders logs → clock < length logs
     → Contains orders (record { clock = clock; gener = gener; ctrl = ctrl }) → HasOrder (log_at logs clock) gener ctrl
 log-has_order clock gener ctrl orders logs lawful there ordered =
     let found = there-at logs clock there in
@@ -99,7 +99,7 @@ pub record HoldsClock (s : Scenario) (hub : HubState) (tick : ℕ) (held : Held)
   pub ordered : HasOrder (log_at hub.logs held.clock) held.gener held.ctrl
   pub tick_is : tick ≤ TICK_MAX
 
-holds-own : (i : Inside) (hub : HubState) (tick : ℕ) (held : Held) (action : Action) → IsActor i → AreSameOwn i hub.entries
+holds-own : (i : Inside) (hub : HubState) (tick : ℕ) (held : Held) (action : Action) → IsPortActor i → AreSameOwn i hub.entries
     → Continues i.scenario.value hub.entries → AreLawful (state_of i.scenario.value hub.entries).roles.orders hub.logs
     → length hub.logs ≡ length i.scenario.value.clocks → i.place ≡ Exchanges tick held action
     → HoldsClock i.scenario.value hub tick held action
@@ -123,33 +123,33 @@ holds-own i hub tick held action is same continues lawful long place =
     }
 
 -- beside the hub
-pub holds-clock : (i : Inside) (a : ActorState) (hub : HubState) (tick : ℕ) (held : Held) (action : Action) → IsActor i → actor_view i ≡ a
+pub holds-clock : (i : Inside) (a : ActorState) (hub : HubState) (tick : ℕ) (held : Held) (action : Action) → IsPortActor i → port_actor_view i ≡ a
     → IsLevel hub a → Continues hub.scenario hub.entries → AreLawful (state_of hub.scenario hub.entries).roles.orders hub.logs
     → length hub.logs ≡ length hub.scenario.clocks → i.place ≡ Exchanges tick held action
     → HoldsClock hub.scenario hub tick held action
 holds-clock i a hub tick held action is view level continues lawful long place =
-    let level_of : IsLevel hub (actor_view i) = subst (IsLevel hub) (sym view) level in
+    let level_of : IsLevel hub (port_actor_view i) = subst (IsLevel hub) (sym view) level in
     let back = λ (P : Scenario → Type 0) (x : P hub.scenario). subst P (sym level_of.scenario) x in
     subst (λ (s : Scenario). HoldsClock s hub tick held action) level_of.scenario
     (holds-own i hub tick held action is level_of.entries (back (λ s. Continues s hub.entries) continues)
     (back (λ s. AreLawful (state_of s hub.entries).roles.orders hub.logs) lawful) (back (λ s. length hub.logs ≡ length s.clocks) long) place)
 
 -- the port of the actor beside the hub
-pub own-port-beside : (i : Inside) (a : ActorState) (hub : HubState) → IsActor i → actor_view i ≡ a → IsLevel hub a
+pub own-port-beside : (i : Inside) (a : ActorState) (hub : HubState) → IsPortActor i → port_actor_view i ≡ a → IsLevel hub a
     → OwnPort hub.scenario i.number hub.entries
 own-port-beside i a hub is view level =
-    let level_of : IsLevel hub (actor_view i) = subst (IsLevel hub) (sym view) level in
+    let level_of : IsLevel hub (port_actor_view i) = subst (IsLevel hub) (sym view) level in
     subst (λ (s : Scenario). OwnPort s i.number hub.entries) level_of.scenario
     (own-port i.scenario.value i.number hub.entries is.first is.there)
 
 -- ---- the actor after it
 
 -- it reports what the exchange gave
-pub actor-exchanged : (i j : Inside) (tick : ℕ) (held : Held) (action : Action) (outcome : Outcome) → IsActor i
+pub actor-exchanged : (i j : Inside) (tick : ℕ) (held : Held) (action : Action) (outcome : Outcome) → IsPortActor i
     → i.place ≡ Exchanges tick held action
-    → j ≡ record i { place = Reports tick held.gener action outcome } → IsActor j
+    → j ≡ record i { place = Reports tick held.gener action outcome } → IsPortActor j
 actor-exchanged i j tick held action outcome is place made =
-    subst IsActor (sym made) (record {
+    subst IsPortActor (sym made) (record {
       rules = is.rules;
       first = is.first;
       there = is.there;
@@ -171,7 +171,7 @@ place-within None place is = cc
 place-within (Some x) place is = let same : Of_port x ≡ Of_port place = same_Some (Of_port x) (Of_port place) is in cc
 
 -- a change of a known element
-changed-known : {X : Type 0} (change : X → X) (k : ℕ) (xs : List X) (x : X) → slice_get xs k ≡ Some x
+pub changed-known : {X : Type 0} (change : X → X) (k : ℕ) (xs : List X) (x : X) → slice_get xs k ≡ Some x
     → changed_at change k xs ≡ changed_at (λ former. change x) k xs
 changed-known change k [] x there = refl
 changed-known change zero (y ∷ ys) x there = ap (λ z. change z ∷ ys) (same_Some y x there)
@@ -193,7 +193,7 @@ after_exchange_in w p logs place = record {
 
 -- the exchange of the actor is its step
 pub free-step : (i : Inside) (w : World) (hub new : HubState) (tick : ℕ) (held : Held) (action : Action) (outcome : Outcome)
-    → OwnPort hub.scenario i.number hub.entries → IsIn w hub (actor_view i) → i.place ≡ Exchanges tick held action
+    → OwnPort hub.scenario i.number hub.entries → IsIn w hub (port_actor_view i) → i.place ≡ Exchanges tick held action
     → new ≡ with_exchange hub held tick action → outcome ≡ outcome_at hub held tick action
     → step_of hub.scenario w (Port i.number)
     ≡ Some (Free (record (after_exchange_in w i.number new.logs (Reports tick held.gener action outcome)) { entries = new.entries }))

@@ -21,9 +21,9 @@ use Rattle.bc_history.proofs.lemmas.PortEntriesLemmas.{taken-state_of, taken_by-
 use Rattle.bc_history.proofs.lemmas.PortIdentityLemmas.{port-state_of, ports-length}
 use Rattle.hub_core.specs.HubView.{HubState}
 use Rattle.bc_steps.specs.ActorView.{ActorState, due_tick, IsLevel}
-use Rattle.bc_steps.specs.ActorInvariant.{IsActor, actor_view, history_of}
+use Rattle.bc_steps.specs.PortActors.{IsPortActor, port_actor_view, history_of}
 use Rattle.bc_steps.specs.RecordQueue.{QueueRepresents, last_of, records_left, tick_at}
-use Rattle.bc_steps.specs.declared.actor.Actor.TheInside.{Inside}
+use Rattle.bc_steps.specs.declared.port.actor.PortActor.TheInside.{Inside}
 
 -- ---- the end of a queue
 
@@ -89,7 +89,7 @@ taken-same i entries same =
     taken_by-own i.number (history_of i) ∙ ap (λ (es : List Entry). taken_by i.number es) (sym same) ∙ sym (taken_by-own i.number entries)
 
 -- the next record of the port is at the end of the queue
-next-record : (i : Inside) (entries : List Entry) → IsActor i → AreSameOwn i entries → (own : OwnPort i.scenario.value i.number entries)
+next-record : (i : Inside) (entries : List Entry) → IsPortActor i → AreSameOwn i entries → (own : OwnPort i.scenario.value i.number entries)
     → last_of i.records.items ≡ slice_get (records_of i.scenario.value i.number) own.port.taken
 next-record i entries is same own =
     let s = i.scenario.value in
@@ -98,7 +98,7 @@ next-record i entries is same own =
     (taken-same i entries same ∙ sym (taken-state_of s entries i.number own.port own.there))
 
 -- the record or timer that the port takes next
-pub next-own : (i : Inside) (entries : List Entry) → IsActor i → AreSameOwn i entries → (own : OwnPort i.scenario.value i.number entries)
+pub next-own : (i : Inside) (entries : List Entry) → IsPortActor i → AreSameOwn i entries → (own : OwnPort i.scenario.value i.number entries)
     → next_input i.scenario.value own.port ≡ record_or_timer i.number (last_of i.records.items) (due_of own.port.port.timers)
 next-own i entries is same own =
     let s = i.scenario.value in
@@ -127,7 +127,7 @@ abbrev pub by_end : ℕ → Option ℕ → Option ℕ
 by_end duration tick = option_and_then (λ t. cond (leb t duration) (Some t) None) tick
 
 -- the tick of the actor's next step
-pub due-own : (i : Inside) (entries : List Entry) → IsActor i → AreSameOwn i entries
+pub due-own : (i : Inside) (entries : List Entry) → IsPortActor i → AreSameOwn i entries
     → due_by_end i.scenario.value (state_of i.scenario.value entries) (Port i.number) (Of_port i.place)
     ≡ by_end i.duration (tick_at i.number i.place (last_of i.records.items) (timer_of i.scenario.value entries i.number))
 due-own i entries is same =
@@ -141,10 +141,10 @@ due-own i entries is same =
 
 -- what the code finds is what the definitions say: from the queue and the timer that the hub told
 pub due-told : (i : Inside) (a : ActorState) (hub : HubState) (queue : List Record) (timer : Option (ℕ × Timer)) (t : Option ℕ)
-    → IsActor i → actor_view i ≡ a → IsLevel hub a → queue ≡ i.records.items → timer ≡ timer_of hub.scenario hub.entries i.number
+    → IsPortActor i → port_actor_view i ≡ a → IsLevel hub a → queue ≡ i.records.items → timer ≡ timer_of hub.scenario hub.entries i.number
     → ((p : ℕ) → t ≡ tick_at p i.place (last_of queue) timer) → by_end i.duration t ≡ due_tick hub a
 due-told i a hub queue timer t is view level queued told found =
-    let level_of : IsLevel hub (actor_view i) = subst (IsLevel hub) (sym view) level in
+    let level_of : IsLevel hub (port_actor_view i) = subst (IsLevel hub) (sym view) level in
     let same = level_of.entries in
     let by = λ (s : Scenario). by_end i.duration (tick_at i.number i.place (last_of i.records.items) (timer_of s hub.entries i.number)) in
     ap (by_end i.duration) (found i.number)

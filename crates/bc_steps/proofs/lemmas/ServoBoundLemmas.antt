@@ -17,7 +17,7 @@ within-neg : (most z : ℤ) → IsWithin most z → IsWithin most (neg_ℤ z)
 within-neg most z h = (omega (arith, ints, h), omega (arith, ints, h))
 
 -- what is within a magnitude is within a greater one
-within-more : (most more z : ℤ) → most ≤ℤ more → IsWithin most z → IsWithin more z
+pub within-more : (most more z : ℤ) → most ≤ℤ more → IsWithin most z → IsWithin more z
 within-more most more z le h = (omega (arith, ints, le, h), omega (arith, ints, le, h))
 
 -- a step that is asked for is one that a clock takes

@@ -1,0 +1,5 @@
+pub(crate) mod actor;
+mod event;
+mod free;
+mod place;
+mod start;

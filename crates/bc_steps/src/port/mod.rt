@@ -1,0 +1,5 @@
+pub(crate) mod actor;
+mod job;
+mod queue;
+mod start;
+mod step;
