@@ -1,7 +1,7 @@
 ghost use Rattle.std.specs.Prelude.{◌≡◌};
 ghost use Rattle.bc_history.specs.Run.World.{Ended, Finished, status_after};
 ghost use Rattle.run_legal.specs.Runs.LegalRuns.{IsLegal, IsOpen, IsWindowed};
-ghost use Rattle.run_legal.specs.Runs.LegalExamples.{steers, steered, unread, out_of_turn, unordered, misread, oversteered, misreported, foreseen, unnamed, unfinished, never_steps, changed_before, two_hear, forgotten, follows, followed, untold, backwards};
+ghost use Rattle.run_legal.specs.Runs.LegalExamples.{steers, steered, unread, out_of_turn, unordered, misread, oversteered, misreported, foreseen, unnamed, unfinished, never_steps, changed_before, two_hear, forgotten, follows, followed, followed_to_the_end, untold, backwards};
 
 /// A port that hears a master and steps its clock: the World's run is legal and windowed.
 pub fn steers_legally()
@@ -10,9 +10,12 @@ pub fn steers_legally()
     ensures windowed { IsWindowed steers steered }
 {}
 
-/// The follower of a second clock has taken its first sample: the run is open.
-pub fn follows_openly()
-    ensures { IsOpen follows followed }
+/// Two clocks, the second of which has a follower that samples: the World's run is legal. Without the
+/// turn of the first clock's follower it is open.
+pub fn follows_legally()
+    ensures is_open { IsOpen follows followed }
+    ensures ends { status_after follows 17 ≡ Ended (Finished followed_to_the_end) }
+    ensures legal { IsLegal follows followed_to_the_end }
 {}
 
 /// Runs in each of which one thing is wrong, so that they are not open: a frame without a reading,

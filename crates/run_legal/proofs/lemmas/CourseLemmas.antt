@@ -29,7 +29,7 @@ use Rattle.ptp_profile.specs.Roles.SeatLogs.{log_at}
 use Rattle.run_legal.specs.Runs.Courses.{IsSeen, IsReadRight, IsAgreed, EachAfter}
 
 -- an entry keeps its number
-entry_at-within : (n : ℕ) (log : List LogEntry) (entry : LogEntry) → entry_at n log ≡ Some entry → n ≤ length log
+pub entry_at-within : (n : ℕ) (log : List LogEntry) (entry : LogEntry) → entry_at n log ≡ Some entry → n ≤ length log
 entry_at-within n [] entry is = cc
 entry_at-within n (x ∷ log) entry is =
     elim (eqb_tells n (suc (length log))) [
@@ -49,7 +49,7 @@ EachAfter-weaker P Q says [] h = tt
 EachAfter-weaker P Q says (e ∷ before) h = (says e before h.0, EachAfter-weaker P Q says before h.1)
 
 -- another's entry tells an actor nothing
-known_to-other : (who : Who) (e : Entry) (before : List Entry) → is_by who e ≡ false → known_to who (e ∷ before) ≡ known_to who before
+pub known_to-other : (who : Who) (e : Entry) (before : List Entry) → is_by who e ≡ false → known_to who (e ∷ before) ≡ known_to who before
 known_to-other who e before other = rw other refl
 
 entry_at-push : (n : ℕ) (x : LogEntry) (log : List LogEntry) (entry : LogEntry) → entry_at n log ≡ Some entry → entry_at n (x ∷ log) ≡ Some entry
@@ -78,7 +78,7 @@ Agrees-push rows x log held tick action (Spent at) agrees =
     (agrees.0, record { within = omega arith; gener = rw same is.gener; ctrl = rw same is.ctrl; full = is.full })
 
 -- an actor's numbers rise along the whole history
-same_actor : (a b : Who) → is_same_actor a b ≡ true → a ≡ b
+pub same_actor : (a b : Who) → is_same_actor a b ≡ true → a ≡ b
 same_actor (Port p) (Port q) h = ap (λ n. Port n) (eqb-true p q h)
 same_actor (Port p) (Follower d) h = absurd (false≢true h)
 same_actor (Port p) Queries h = absurd (false≢true h)

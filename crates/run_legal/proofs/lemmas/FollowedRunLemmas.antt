@@ -1,8 +1,10 @@
--- A run with a follower that is open.
-use Rattle.std.proofs.Common.{◌≡◌, ◌≤◌, ℕ, zero, suc, refl, subst, List, [], ◌∷◌, length, reverse, arith, pos}
-use Rattle.std.specs.Prelude.{All, is_some}
+-- Runs with a follower that samples: one that is open, and the World's, which is legal.
+use Rattle.std.proofs.Common.{◌≡◌, ◌<◌, ◌≤◌, ℕ, zero, suc, refl, sym, subst, List, [], ◌∷◌, length, reverse, leb, arith, rules, pos}
+use Rattle.std.specs.Prelude.{All, AllPairs, is_some}
+use Rattle.std.proofs.lemmas.Bool.{false≢true, leb-true}
 use Rattle.std.proofs.lemmas.Option.{same_Some}
 use Rattle.std.proofs.lemmas.List.Elements.{All-from_recursion, All-nil, All-cons}
+use Rattle.ptp_base.specs.declared.port_conf.PortConf.{PortConf}
 use Rattle.ptp_profile.specs.declared.seats.LogEntry.{LogEntry}
 use Rattle.ptp_profile.specs.declared.seats.LogEntry.TheVariants.{Order, Change}
 use Rattle.ptp_profile.specs.Wire.MessageFormat.{number_at, message_octets}
@@ -16,14 +18,20 @@ use Rattle.bc_history.specs.Phases.RolePhase.{after_roles}
 use Rattle.bc_history.specs.Phases.NoticePhase.{after_turn}
 use Rattle.bc_history.specs.Phases.EntryEffects.{effects_of, entry_after}
 use Rattle.bc_history.specs.Phases.Step.{step, state_of}
+use Rattle.bc_history.specs.declared.scenario.Record.{Record}
+use Rattle.bc_history.specs.Scenario.ScenarioRules.{IsScenario, IsOpeningClock, IsPortConf, IsRecordOf, IsRecordBefore, IsQuery, AreTurnsOf}
 use Rattle.bc_history.specs.Run.History.{Continues}
+use Rattle.bc_history.specs.Run.World.{status_after, Ended, Finished}
+use Rattle.bc_history.proofs.lemmas.OptionRuleLemmas.{plain_port_rule, plain_clock_rule}
 use Rattle.run_legal.specs.Numbers.Marks.{Sight}
 use Rattle.ptp_profile.specs.Roles.SeatLogs.{log_at}
 use Rattle.run_legal.specs.Numbers.Knowledge.{IsNumbered}
 use Rattle.run_legal.specs.Runs.Courses.{IsFormed, AreLogs, AreOutcomes, IsReadRight, IsAgreed, IsSeen, IsSteered, EachAfter}
-use Rattle.run_legal.specs.Runs.LegalRuns.{IsOpen}
-use Rattle.run_legal.specs.Runs.LegalExamples.{follows, followed}
-use Rattle.run_legal.proofs.lemmas.LegalTestLemmas.{other, IsNumbered-test}
+use Rattle.run_legal.specs.Runs.LegalRuns.{IsOpen, IsLegal}
+use Rattle.run_legal.specs.Runs.LegalExamples.{follows, followed, followed_to_the_end}
+use Rattle.run_legal.proofs.lemmas.LegalTestLemmas.{other, IsNumbered-test, AllPairs-passes}
+use Rattle.run_legal.proofs.lemmas.NamedEndLemmas.{run-legal}
+use Rattle.run_legal.proofs.lemmas.StepLemmas.{stays-right}
 
 abbrev entries : List Entry
 entries = reverse followed.entries
@@ -192,3 +200,36 @@ followed_is_open = record {
   opened = refl;
   course = record { formed = formed; history = continues; lawful = lawful; readings = readings; actions = actions; outcomes = outcomes; numbers = numbers };
 }
+
+-- ---- the World's run
+
+-- the ticks of all records rise
+record_order : AllPairs IsRecordBefore follows.records
+record_order =
+    AllPairs-passes IsRecordBefore (λ (r q : Record). leb r.tick q.tick) (λ r q h same. leb-true r.tick q.tick h) follows.records refl
+
+-- the scenario keeps the rules of all scenarios, so that the law of legal runs speaks of it
+is_scenario : IsScenario follows
+is_scenario = record {
+  options = search rules;
+  clock_count = (omega arith, omega arith);
+  clocks = All-from_recursion IsOpeningClock follows.clocks (plain_clock_rule, (plain_clock_rule, tt));
+  port_count = (omega arith, omega arith);
+  ports = All-from_recursion IsPortConf follows.ports (plain_port_rule, tt);
+  placed = All-from_recursion (λ (p : PortConf). p.clock < 2) follows.ports (omega arith, tt);
+  together = λ apart. absurd (false≢true (sym apart));
+  records = All-from_recursion (IsRecordOf 1) follows.records (search rules);
+  record_order = record_order;
+  queries = All-nil IsQuery;
+  query_order = λ i j d lt below. absurd (omega arith);
+  turns = All-nil (AreTurnsOf 2 1);
+}
+
+-- the World of the scenario is that run
+pub follows_to_the_end : status_after follows 17 ≡ Ended (Finished followed_to_the_end)
+unfolding number_at message_octets status_after step state_of after_port with_codes after_hearing after_roles after_turn effects_of entry_after
+follows_to_the_end = refl
+
+-- so it is legal
+pub followed_is_legal : IsLegal follows followed_to_the_end
+followed_is_legal = run-legal follows is_scenario (stays-right follows is_scenario) followed_to_the_end (17, follows_to_the_end)

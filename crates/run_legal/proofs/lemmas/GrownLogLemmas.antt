@@ -1,6 +1,6 @@
 -- What was right of entries and logs stays so as changes come.
-use Rattle.std.proofs.Common.{◌≡◌, ◌≢◌, ◌≤◌, ◌<◌, ℕ, suc, Bool, true, false, inl, inr, refl, sym, ap, ◌∙◌, subst, arith, List, [], ◌∷◌, ◌++◌, length, map, Option, Some, None}
-use Rattle.std.specs.Prelude.{◌==◌, ◌⊎◌, All, filter, filter_map, IfSome}
+use Rattle.std.proofs.Common.{◌≡◌, ◌≤◌, ◌<◌, ℕ, false, inl, inr, refl, sym, ap, ◌∙◌, subst, arith, List, [], ◌∷◌, length, Option, Some, None}
+use Rattle.std.specs.Prelude.{◌==◌, All, filter, filter_map, IfSome}
 use Rattle.std.proofs.lemmas.Bool.{false≢true}
 use Rattle.std.proofs.lemmas.List.Elements.{All-weaker}
 use Rattle.model_clock.specs.Clock.{clock_at}
@@ -17,9 +17,9 @@ use Rattle.bc_history.specs.Run.Actors.{actor_of}
 use Rattle.bc_history.specs.Run.ExchangeOutcomes.{Agrees}
 use Rattle.run_legal.specs.Numbers.GrownLogs.{AreSameOrChanged, IsSameOrChanged}
 use Rattle.run_legal.specs.Numbers.Knowledge.{known_to, IsUpTo, IsWithin, IsAbreast, ComesAfter, IsNumbered}
-use Rattle.run_legal.specs.Numbers.LogNumbers.{order_number, order_numbers, numbers_of, numbers_in}
+use Rattle.run_legal.specs.Numbers.LogNumbers.{order_number, order_numbers, numbers_in}
 use Rattle.run_legal.specs.Numbers.Marks.{Exchange, Mark, Sight, exchange_of, hub_sights, marks_in, marks_of, of_clock, sight_mark, sights_of}
-use Rattle.run_legal.specs.Runs.Courses.{AreLogs, EachAfter, IsAgreed, IsCourse, IsReadRight, IsSeen, IsSightRight}
+use Rattle.run_legal.specs.Runs.Courses.{AreLogs, IsAgreed, IsCourse, IsReadRight, IsSeen, IsSightRight}
 use Rattle.run_legal.proofs.lemmas.CourseLemmas.{Agrees-push, EachAfter-weaker, IsSeen-push}
 
 -- a fact that one more entry leaves is so of the later log

@@ -16,7 +16,7 @@ use Rattle.ptp_profile.proofs.lemmas.SeatLogLemmas.{stamp_after-lawful}
 use Rattle.bc_history.specs.declared.entry.Entry.{Entry}
 use Rattle.bc_history.specs.declared.scenario.Scenario.{Scenario}
 use Rattle.bc_history.specs.Phases.Inputs.{event_of}
-use Rattle.bc_history.specs.Phases.RolePhase.{after_roles, begins_generation, clocks_of, edges_now, orders_now, states_of}
+use Rattle.bc_history.specs.Phases.RolePhase.{after_roles, begins_generation, clocks_of, edges_now, states_of}
 use Rattle.bc_history.specs.Phases.State.{Core, Roles}
 use Rattle.bc_history.specs.Phases.Step.{core_after, state_of, step}
 use Rattle.bc_history.specs.Run.ExchangeOutcomes.{IsHolder}
@@ -148,7 +148,7 @@ under-state_of s (e ∷ before) clock =
     under-after_roles clock (core_after s.options (state_of s before) (event_of e)) (state_of s before).roles (orders_are_bounded s before).bounded (under-state_of s before clock)
 
 -- what is so of those that pass a test is so of each that does
-All-passing : {X : Type 0} (P : X → Type 0) (test : X → Bool) (xs : List X) → All P (filter test xs) → All (λ (x : X). test x ≡ true → P x) xs
+pub All-passing : {X : Type 0} (P : X → Type 0) (test : X → Bool) (xs : List X) → All P (filter test xs) → All (λ (x : X). test x ≡ true → P x) xs
 All-passing P test [] all = All-nil (λ x. test x ≡ true → P x)
 All-passing P test (x ∷ xs) all = by (test x) refl all (All-passing P test xs)
   where

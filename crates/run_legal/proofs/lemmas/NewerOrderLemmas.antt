@@ -139,7 +139,7 @@ entries_are_bounded s (e ∷ before) h =
 
 -- ---- numbers stay as logs grow by newer orders
 
-log_at-changed : (logs : List (List LogEntry)) (i clock : ℕ) (x : LogEntry) → (log_at (slice_set logs i (x ∷ log_at logs i)) clock ≡ log_at logs clock) ⊎ (log_at (slice_set logs i (x ∷ log_at logs i)) clock ≡ x ∷ log_at logs clock)
+pub log_at-changed : (logs : List (List LogEntry)) (i clock : ℕ) (x : LogEntry) → (log_at (slice_set logs i (x ∷ log_at logs i)) clock ≡ log_at logs clock) ⊎ (log_at (slice_set logs i (x ∷ log_at logs i)) clock ≡ x ∷ log_at logs clock)
 log_at-changed [] i clock x = inl refl
 log_at-changed (log ∷ logs) zero zero x = inr refl
 log_at-changed (log ∷ logs) zero (suc c) x = inl refl
@@ -154,7 +154,7 @@ number-stays logs newer clock gener ctrl lt =
       | inr more ↦ rw more (order_number-push gener ctrl newer.gener newer.ctrl (log_at logs clock) lt)
     ]
 
-numbers-stay_by : (logs : List (List LogEntry)) (newer : RoleOrder) (clock : ℕ) (orders : List RoleOrder) → All (λ (o : RoleOrder). o.gener < newer.gener) orders
+pub numbers-stay_by : (logs : List (List LogEntry)) (newer : RoleOrder) (clock : ℕ) (orders : List RoleOrder) → All (λ (o : RoleOrder). o.gener < newer.gener) orders
     → order_numbers (with_order logs newer) clock orders ≡ order_numbers logs clock orders
 numbers-stay_by logs newer clock [] all = refl
 numbers-stay_by logs newer clock (o ∷ orders) all =

@@ -1,5 +1,5 @@
 -- No number that entries have for a clock is beyond the clock's log; so what an exchange at the end of the log gave is abreast.
-use Rattle.std.proofs.Common.{◌≡◌, ◌≢◌, ◌≤◌, ◌<◌, ℕ, suc, ◌+◌, Bool, true, false, cond, eqb, leb, refl, sym, ap, ◌∙◌, subst, arith, List, [], ◌∷◌, ◌++◌, length, map, Option, Some, None, Result, Ok, Err}
+use Rattle.std.proofs.Common.{◌≡◌, ◌≤◌, ◌<◌, ℕ, suc, ◌+◌, Bool, true, false, cond, eqb, leb, refl, sym, subst, arith, List, [], ◌∷◌, length, map, Option, Some, None, Ok, Err}
 use Rattle.std.specs.List.{cons_option}
 use Rattle.std.specs.Prelude.{◌==◌, ◌&&◌, All, IfSome, filter, filter_map, not}
 use Rattle.std.proofs.lemmas.Bool.{eqb-true}
@@ -24,7 +24,7 @@ use Rattle.bc_history.specs.Run.Actors.{entries_of, is_by}
 use Rattle.bc_history.specs.Run.ExchangeOutcomes.{answer_outcome}
 use Rattle.run_legal.specs.Numbers.Knowledge.{AreRising, IsAbreast, IsNumbered, IsUpTo, IsWithin, known_to}
 use Rattle.run_legal.specs.Numbers.LogNumbers.{numbers_in, order_number}
-use Rattle.run_legal.specs.Numbers.Marks.{Mark, Sight, clock_of, marks_in, marks_of, of_clock, sight_mark}
+use Rattle.run_legal.specs.Numbers.Marks.{Mark, clock_of, marks_in, marks_of, of_clock}
 use Rattle.run_legal.specs.Runs.Courses.{EachAfter}
 
 -- ---- numbers are within logs

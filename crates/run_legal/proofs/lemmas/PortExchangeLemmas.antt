@@ -1,8 +1,7 @@
 -- A port's exchange under the stamp of its last measure keeps entries and logs that belong together.
-use Rattle.std.proofs.Common.{◌≡◌, ◌≢◌, ◌≤◌, ◌<◌, ℕ, zero, suc, ◌+◌, Bool, true, false, cond, eqb, leb, inl, inr, refl, sym, ap, ◌∙◌, subst, arith, List, [], ◌∷◌, ◌++◌, length, Option, Some, None, ℤ, pos, Result, Ok, Err}
-use Rattle.std.specs.Prelude.{◌&&◌, All, not, option_map, slice_get, slice_set, unwrap_or}
+use Rattle.std.proofs.Common.{◌≡◌, ◌≢◌, ◌≤◌, ◌<◌, ℕ, zero, suc, ◌+◌, Bool, true, false, cond, eqb, leb, inl, inr, refl, sym, ap, ◌∙◌, subst, arith, List, [], ◌∷◌, length, Option, Some, None, pos, Result, Ok, Err}
+use Rattle.std.specs.Prelude.{◌&&◌, All, Contains, not, option_map, slice_get, slice_set, unwrap_or}
 use Rattle.std.proofs.lemmas.Bool.{eqb-true}
-use Rattle.std.proofs.lemmas.List.{get_or-set_same}
 use Rattle.std.proofs.lemmas.List.Elements.{All-head, All-nil, All-tail}
 use Rattle.std.proofs.lemmas.Option.{same_Some}
 use Rattle.ptp_base.specs.declared.port_conf.PortConf.{PortConf}
@@ -14,7 +13,7 @@ use Rattle.ptp_profile.specs.declared.seats.Refused.{Refused}
 use Rattle.ptp_profile.specs.declared.seats.Refused.TheVariants.{Superseded as Is_superseded, Spent as Is_spent}
 use Rattle.ptp_profile.specs.declared.timing.Action.{Action}
 use Rattle.ptp_profile.specs.declared.timing.Action.TheVariants.{Unlocked, Jump, Locked}
-use Rattle.ptp_profile.specs.Roles.SeatLogs.{AreLawful, IsLawful, change_of, exchange_answer, log_at, stamp_after}
+use Rattle.ptp_profile.specs.Roles.SeatLogs.{IsLawful, change_of, exchange_answer, log_at, stamp_after}
 use Rattle.ptp_profile.proofs.lemmas.SeatLogLemmas.{IsLawful-changed}
 use Rattle.bc_history.specs.declared.entry.Entry.{Entry}
 use Rattle.bc_history.specs.declared.entry.Input.TheVariants.{Report}
@@ -23,7 +22,7 @@ use Rattle.bc_history.specs.declared.scenario.Scenario.{Scenario}
 use Rattle.bc_history.specs.Phases.HubPort.{TickMeasure}
 use Rattle.bc_history.specs.Phases.Inputs.{port_at}
 use Rattle.bc_history.specs.Phases.Step.{state_of}
-use Rattle.bc_history.specs.Run.ExchangeOutcomes.{Agrees, after_exchange, exchange_result, IsHolder}
+use Rattle.bc_history.specs.Run.ExchangeOutcomes.{Agrees, after_exchange, exchange_result}
 use Rattle.bc_history.specs.Run.PortEntries.{IsHeldByPort, measured_by}
 use Rattle.bc_history.specs.Scenario.ScenarioRules.{IsScenario}
 use Rattle.bc_history.proofs.lemmas.ExchangeLemmas.{exchange_agrees}
@@ -57,7 +56,7 @@ set-grown (log ∷ logs) (suc i) new grown = λ clock. by (set-grown logs i new 
     by rest zero = inl refl
     by rest (suc c) = rest c
 
-length-slice_set : (logs : List (List LogEntry)) (i : ℕ) (new : List LogEntry) → length (slice_set logs i new) ≡ length logs
+pub length-slice_set : (logs : List (List LogEntry)) (i : ℕ) (new : List LogEntry) → length (slice_set logs i new) ≡ length logs
 length-slice_set [] i new = refl
 length-slice_set (log ∷ logs) zero new = refl
 length-slice_set (log ∷ logs) (suc i) new = ap (λ n. suc n) (length-slice_set logs i new)
@@ -74,7 +73,7 @@ set-each P (x ∷ logs) (suc i) new all own (suc c) log is =
     set-each (λ k l. P (suc k) l) logs i new (λ k l there. all (suc k) l there) own c log is
 
 -- the log of a clock that is there
-log-there : (logs : List (List LogEntry)) (clock : ℕ) → clock < length logs → slice_get logs clock ≡ Some (log_at logs clock)
+pub log-there : (logs : List (List LogEntry)) (clock : ℕ) → clock < length logs → slice_get logs clock ≡ Some (log_at logs clock)
 log-there [] clock lt = absurd (omega arith)
 log-there (log ∷ logs) zero lt = refl
 log-there (log ∷ logs) (suc c) lt = log-there logs c (omega (arith, lt))
@@ -146,7 +145,7 @@ held-same : (clock gener ctrl own p : ℕ) → clock ≡ own → ctrl ≡ p → 
 held-same clock gener ctrl own p is by = ap (λ (c : ℕ). held_with c gener ctrl) is ∙ ap (λ (k : ℕ). held_with own gener k) by
 
 -- what a port holds is its own stamp of its generation
-held-own : (s : Scenario) (orders : List RoleOrder) (p : ℕ) (held : Held) → IsHeldByPort s orders p held → held ≡ held_by_port s p held.gener
+pub held-own : (s : Scenario) (orders : List RoleOrder) (p : ℕ) (held : Held) → IsHeldByPort s orders p held → held ≡ held_by_port s p held.gener
 held-own s orders p held h =
     let clock : held.clock ≡ clock_of s p = h.clock ∙ sym (ap (λ (o : Option PortConf). unwrap_or (option_map (λ (conf : PortConf). conf.clock) o) 0) h.there) in
     held-same held.clock held.gener held.ctrl (clock_of s p) p clock h.ctrl
@@ -157,6 +156,31 @@ pub exchange-logs : (s : Scenario) (logs : List (List LogEntry)) (held : Held) (
 exchange-logs s logs held tick action =
     set-grown logs held.clock (exchange_result s.options.seat_rows held tick action (log_at logs held.clock)).1
     (exchange-grown (exchange_answer s.options.seat_rows held (log_at logs held.clock)) held tick action (log_at logs held.clock))
+
+-- an exchange under a stamp that an order gave to somebody
+module _ (s : Scenario) (entries : List Entry) (logs : List (List LogEntry)) (held : Held) (tick : ℕ) (action : Action) (course : IsCourse s entries logs) (somebody : held.ctrl ≢ 0) (within : held.clock < length logs) (ordered : Contains (state_of s entries).roles.orders (record { clock = held.clock; gener = held.gener; ctrl = held.ctrl })) where
+  held_lawful : IsLawful held.clock (state_of s entries).roles.orders (log_at logs held.clock)
+  held_lawful = course.lawful.lawful held.clock (log_at logs held.clock) (log-there logs held.clock within)
+
+  held_after_lawful : AreLogs s entries (logs_after_exchange s logs held tick action)
+  held_after_lawful = record {
+    number = length-slice_set logs held.clock (exchange_result s.options.seat_rows held tick action (log_at logs held.clock)).1 ∙ course.lawful.number;
+    lawful = set-each (λ (c : ℕ) (log : List LogEntry). IsLawful c (state_of s entries).roles.orders log) logs held.clock
+        (exchange_result s.options.seat_rows held tick action (log_at logs held.clock)).1 course.lawful.lawful
+        (exchange-lawful s.options.seat_rows held tick action (state_of s entries).roles.orders (log_at logs held.clock) somebody held_lawful);
+  }
+
+  -- entries and logs go on belonging together
+  pub held_course : IsCourse s entries (logs_after_exchange s logs held tick action)
+  held_course = course-later s logs (logs_after_exchange s logs held tick action) (exchange-logs s logs held tick action) entries course held_after_lawful
+
+  -- and the outcome agrees with the log that the exchange leaves
+  pub held_agreed : action ≢ Unlocked
+      → Agrees s.options.seat_rows (log_at (logs_after_exchange s logs held tick action) held.clock) held tick action (outcome_of_exchange s logs held tick action)
+  held_agreed asks =
+      let there = log-set logs held.clock (exchange_result s.options.seat_rows held tick action (log_at logs held.clock)).1 within in
+      let agrees = exchange_agrees s.options.seat_rows held tick action (log_at logs held.clock) asks (IsHolder-ordered s entries (log_at logs held.clock) held somebody held_lawful ordered) in
+      subst (λ (log : List LogEntry). Agrees s.options.seat_rows log held tick action (outcome_of_exchange s logs held tick action)) (sym there) agrees
 
 module _ (s : Scenario) (is : IsScenario s) (entries : List Entry) (logs : List (List LogEntry)) (p : ℕ) (m : TickMeasure) (action : Action) (course : IsCourse s entries logs) (measured : measured_by p entries ≡ Some m) where
   by_port : IsHeldByPort s (state_of s entries).roles.orders p m.held
@@ -170,26 +194,12 @@ module _ (s : Scenario) (is : IsScenario s) (entries : List Entry) (logs : List 
       let placed = clock-placed s is p by_port.conf by_port.there in
       omega (arith, placed, by_port.clock, course.lawful.number)
 
-  held_lawful : IsLawful m.held.clock (state_of s entries).roles.orders (log_at logs m.held.clock)
-  held_lawful = course.lawful.lawful m.held.clock (log_at logs m.held.clock) (log-there logs m.held.clock within)
-
-  after_lawful : AreLogs s entries (logs_after_exchange s logs m.held m.tick action)
-  after_lawful = record {
-    number = length-slice_set logs m.held.clock (exchange_result s.options.seat_rows m.held m.tick action (log_at logs m.held.clock)).1 ∙ course.lawful.number;
-    lawful = set-each (λ (c : ℕ) (log : List LogEntry). IsLawful c (state_of s entries).roles.orders log) logs m.held.clock
-        (exchange_result s.options.seat_rows m.held m.tick action (log_at logs m.held.clock)).1 course.lawful.lawful
-        (exchange-lawful s.options.seat_rows m.held m.tick action (state_of s entries).roles.orders (log_at logs m.held.clock) somebody held_lawful);
-  }
-
   after_grown : AreSameOrChanged logs (logs_after_exchange s logs m.held m.tick action)
   after_grown = exchange-logs s logs m.held m.tick action
 
   -- entries and logs go on belonging together
   pub after_course : IsCourse s entries (logs_after_exchange s logs m.held m.tick action)
-  after_course = course-later s logs (logs_after_exchange s logs m.held m.tick action) after_grown entries course after_lawful
-
-  holder : IsHolder (log_at logs m.held.clock) m.held
-  holder = IsHolder-ordered s entries (log_at logs m.held.clock) m.held somebody held_lawful by_port.ordered
+  after_course = held_course s entries logs m.held m.tick action course somebody within by_port.ordered
 
   abbrev outcome : Outcome
   outcome = outcome_of_exchange s logs m.held m.tick action
@@ -197,12 +207,9 @@ module _ (s : Scenario) (is : IsScenario s) (entries : List Entry) (logs : List 
   -- and the outcome agrees with the log that the exchange leaves
   pub after_agreed : action ≢ Unlocked → IsAgreed s (logs_after_exchange s logs m.held m.tick action) (Report p m.tick m.held.gener action outcome)
   after_agreed asks =
-      let there = log-set logs m.held.clock (exchange_result s.options.seat_rows m.held m.tick action (log_at logs m.held.clock)).1 within in
-      let agrees = exchange_agrees s.options.seat_rows m.held m.tick action (log_at logs m.held.clock) asks holder in
-      let after : Agrees s.options.seat_rows (log_at (logs_after_exchange s logs m.held m.tick action) m.held.clock) m.held m.tick action outcome =
-      subst (λ (log : List LogEntry). Agrees s.options.seat_rows log m.held m.tick action outcome) (sym there) agrees in
       subst (λ (held : Held). Agrees s.options.seat_rows (log_at (logs_after_exchange s logs m.held m.tick action) held.clock) held m.tick action outcome)
-      (held-own s (state_of s entries).roles.orders p m.held by_port) after
+      (held-own s (state_of s entries).roles.orders p m.held by_port)
+      (held_agreed s entries logs m.held m.tick action course somebody within by_port.ordered asks)
 
   -- what the exchange knew is not less than what was known
   pub after_abreast : action ≢ Unlocked → IsAbreast s (logs_after_exchange s logs m.held m.tick action) (event (Report p m.tick m.held.gener action outcome) None) entries

@@ -18,11 +18,12 @@ use Rattle.bc_history.specs.Phases.Inputs.{port_at}
 use Rattle.bc_history.specs.Phases.OpeningState.{open_follower, follower_count}
 use Rattle.bc_history.specs.Phases.State.{Follower}
 use Rattle.bc_history.specs.Phases.Step.{state_of}
-use Rattle.bc_history.specs.Run.FollowerPlace.{FollowerPlace, Turns_next}
+use Rattle.bc_history.specs.declared.place.FollowerPlace.{FollowerPlace}
+use Rattle.bc_history.specs.declared.place.FollowerPlace.TheVariants.{Turns as Turns_next}
 use Rattle.bc_history.specs.Run.World.{World, world_opening, run_of, Step, Event, Free, End, Finished, Not_due, Events, Status, Going, Ended, take_step, next_status, status_after_turn, turner_at, turn_of, default_turn, step_of, status_after}
 use Rattle.run_legal.specs.Runs.Courses.{IsCourse}
 use Rattle.run_legal.specs.Runs.LegalRuns.{IsOpen, newest_first}
-use Rattle.run_legal.specs.Runs.WorldInvariant.{IsRight, IsPortPlaced, IsFollowerPlaced, StaysRight, IsOpenThroughout}
+use Rattle.run_legal.specs.Runs.WorldInvariant.{IsRight, IsPortPlaced, IsFollowerPlaced, IsStepTo, StaysRight, IsOpenThroughout}
 
 length-no_logs : (clocks : List ClockState) → length (no_logs clocks) ≡ length clocks
 length-no_logs [] = refl
@@ -87,7 +88,7 @@ IsRight-opening s = record {
 
 -- ---- a World that is right gives an open run
 
-newest_first-from : (c : ℕ) (openings : List ClockState) (logs : List (List LogEntry)) → length logs ≡ length openings → newest_first (logs_from c openings logs) ≡ logs
+pub newest_first-from : (c : ℕ) (openings : List ClockState) (logs : List (List LogEntry)) → length logs ≡ length openings → newest_first (logs_from c openings logs) ≡ logs
 newest_first-from c [] [] same = refl
 newest_first-from c [] (log ∷ logs) same = absurd (omega (arith, same))
 newest_first-from c (opening ∷ openings) [] same = absurd (omega (arith, same))
@@ -105,38 +106,41 @@ IsRight-open s w right =
       course = rw (logs, entries) right.course;
     }
 
--- by the law of one step each state of the World that is going on stands
-pub IsRight-throughout : (s : Scenario) → StaysRight s → (n : ℕ) (w : World) → status_after s n ≡ Going w → IsRight s w
+-- what is so of the World at the beginning, and stays so at each step, is so of each state that goes on
+pub throughout : (s : Scenario) (P : World → Type 0) → P (world_opening s) → ((w next : World) (who : Who) → P w → IsStepTo s w who next → P next)
+    → (n : ℕ) (w : World) → status_after s n ≡ Going w → P w
 unfolding status_after
-IsRight-throughout s stays zero w at =
-    let same : world_opening s ≡ w = cc in
-    subst (λ (v : World). IsRight s v) same (IsRight-opening s)
-IsRight-throughout s stays (suc n) w at = turned_by (λ v is. IsRight-throughout s stays n v is) (status_after s n) refl at
+throughout s P opened stays zero w at = let same : world_opening s ≡ w = cc in subst P same opened
+throughout s P opened stays (suc n) w at = turned_by (λ v is. throughout s P opened stays n v is) (status_after s n) refl at
   where
-    stepped_by : (v : World) (who : Who) (o : Option Step) → step_of s v who ≡ o → (end : End) → IsRight s v → take_step v end o ≡ Going w → IsRight s w
+    stepped_by : (v : World) (who : Who) (o : Option Step) → step_of s v who ≡ o → (end : End) → P v → take_step v end o ≡ Going w → P w
     stepped_by v who None is end stands at = cc
     stepped_by v who (Some (Free next)) is end stands at =
         let same : next ≡ w = cc in
-        subst (λ (u : World). IsRight s u) same (stays v next who stands (inr is))
+        subst P same (stays v next who stands (inr is))
     stepped_by v who (Some (Event next)) is end stands at = room (leb ENTRIES_MAX (length v.entries)) refl at
       where
-        room : (b : Bool) → leb ENTRIES_MAX (length v.entries) ≡ b → cond b (Ended Events) (Going next) ≡ Going w → IsRight s w
+        room : (b : Bool) → leb ENTRIES_MAX (length v.entries) ≡ b → cond b (Ended Events) (Going next) ≡ Going w → P w
         room true full at = cc
         room false free at =
             let same : next ≡ w = cc in
-            subst (λ (u : World). IsRight s u) same (stays v next who stands (inl (is, leb-false ENTRIES_MAX (length v.entries) free)))
+            subst P same (stays v next who stands (inl (is, leb-false ENTRIES_MAX (length v.entries) free)))
 
-    chosen_by : (v : World) (o : Option Who) (end : End) → IsRight s v → take_step v end (option_and_then (step_of s v) o) ≡ Going w → IsRight s w
+    chosen_by : (v : World) (o : Option Who) (end : End) → P v → take_step v end (option_and_then (step_of s v) o) ≡ Going w → P w
     chosen_by v None end stands at = cc
     chosen_by v (Some who) end stands at = stepped_by v who (step_of s v who) refl end stands at
 
-    line_by : (v : World) (o : Option Turner) → IsRight s v → next_status s n v o ≡ Going w → IsRight s w
+    line_by : (v : World) (o : Option Turner) → P v → next_status s n v o ≡ Going w → P w
     line_by v None stands at = chosen_by v (default_turn s v) (Finished (run_of s v)) stands at
     line_by v (Some turner) stands at = chosen_by v (turn_of s v turner) (Not_due (n + 1)) stands at
 
-    turned_by : ((v : World) → status_after s n ≡ Going v → IsRight s v) → (x : Status) → status_after s n ≡ x → status_after_turn s n x ≡ Going w → IsRight s w
+    turned_by : ((v : World) → status_after s n ≡ Going v → P v) → (x : Status) → status_after s n ≡ x → status_after_turn s n x ≡ Going w → P w
     turned_by before (Going v) is at = line_by v (turner_at s.turns n) (before v is) at
     turned_by before (Ended end) is at = cc
+
+-- by the law of one step each state of the World that goes on is right
+pub IsRight-throughout : (s : Scenario) → StaysRight s → (n : ℕ) (w : World) → status_after s n ≡ Going w → IsRight s w
+IsRight-throughout s stays = throughout s (IsRight s) (IsRight-opening s) (λ w next who right step. stays w next who right step)
 
 -- so each state that goes on is an open run
 pub open-throughout : (s : Scenario) → StaysRight s → IsOpenThroughout s

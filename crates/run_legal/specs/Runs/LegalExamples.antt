@@ -181,26 +181,34 @@ samples number = record {
   effects = no_effects;
 }
 
--- its first sample, with clock 0 read after so many entries of its log
-abbrev pub followed_with : ℕ → Run
-followed_with number = record {
+-- the follower of a clock takes its turn, and is told this lead
+abbrev pub takes_turn : ℕ → Option Lead → Entry
+takes_turn clock lead = record { input = Turn clock 5600000000; moment = 5600000000; seen = None; effects = record no_effects { told = Some (record { lead = lead; missed = 0 }) } }
+
+-- the run of both clocks up to the port's last report, and then these entries
+abbrev pub followed_by : List Entry → Run
+followed_by entries = record {
   entries =
       before_the_step 1
       ++ record { input = Report 1 5500000000 1 (Locked (pos 0)) (Changed 2); moment = 5500000000; seen = None; effects = record no_effects { states = record { port = 1; old = Uncalibrated; new = Slave } ∷ []; orders = order 1 2 128 ∷ [] } }
-      ∷ record { input = Turn 1 5600000000; moment = 5600000000; seen = None; effects = record no_effects { told = Some (record { lead = Some copied; missed = 0 }) } }
-      ∷ samples number ∷ [];
+      ∷ entries;
   logs =
       record { clock = 0; opening = plain_clock; entries = Order 1 1 ∷ Change 1 1 5500000000 (pos 0) (pos 0) ∷ [] }
       ∷ record { clock = 1; opening = plain_clock; entries = Order 2 128 ∷ [] } ∷ [];
 }
 
--- with all of them
+-- the follower of clock 1 samples, with clock 0 read after all entries of its log; the turn of the
+-- follower of clock 0 is still due
 abbrev pub followed : Run
-followed = followed_with 2
+followed = followed_by (takes_turn 1 (Some copied) ∷ samples 2 ∷ [])
+
+-- the same, where the follower of clock 0 took its turn first, and was told to copy nobody
+abbrev pub followed_to_the_end : Run
+followed_to_the_end = followed_by (takes_turn 0 None ∷ takes_turn 1 (Some copied) ∷ samples 2 ∷ [])
 
 -- a follower read the master's clock without the change that it was told of
 abbrev pub untold : Run
-untold = followed_with 1
+untold = followed_by (takes_turn 1 (Some copied) ∷ samples 1 ∷ [])
 
 -- the frame of a later window came first
 abbrev pub backwards : Run

@@ -21,7 +21,8 @@ use Rattle.bc_history.specs.Phases.State.{Follower}
 use Rattle.bc_history.specs.Phases.EntryEffects.{event}
 use Rattle.bc_history.specs.Phases.Step.{state_of}
 use Rattle.bc_history.specs.Run.Actors.{entries_of}
-use Rattle.bc_history.specs.Run.FollowerPlace.{FollowerPlace, Turns_next, Reads_theirs, Reads_own, Exchanges_own, Samples}
+use Rattle.bc_history.specs.declared.place.FollowerPlace.{FollowerPlace}
+use Rattle.bc_history.specs.declared.place.FollowerPlace.TheVariants.{Turns as Turns_next, ReadsTheirs as Reads_theirs, ReadsOwn as Reads_own, Exchanges as Exchanges_own, Samples}
 use Rattle.bc_history.specs.Run.PortPlace.{place_by_entries, port_place}
 use Rattle.bc_history.specs.Run.World.{World, Event, Free, Going, held_by, step_of, run_of, status_after}
 use Rattle.run_legal.specs.Numbers.Marks.{Sight, sight_mark, marks_in}
