@@ -25,6 +25,7 @@ fn report(rt: &HostRuntime, end: &End) -> io::Result<()> {
         End::WriteFault => eprintln!(rt; "write failed"),
         End::Events => eprintln!(rt; "too many events"),
         End::NoMemory => eprintln!(rt; "no memory"),
+        End::NotDue { turn } => eprintln!(rt; "turn {turn}: nothing due"),
         End::TooLong => eprintln!(rt; "input too long"),
     }
 }

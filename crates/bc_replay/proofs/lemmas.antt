@@ -1,7 +1,8 @@
-pub mod LawfulLogsLemmas
 pub mod ActorListLemmas
 pub mod ActorPlaceLemmas
 pub mod ActorTurnLemmas
 pub mod ActorStepLemmas
+pub mod ScheduleLemmas
 pub mod stage
 pub mod ActorLoopLemmas
+pub mod NamedTurnLemmas

@@ -3,4 +3,3 @@ pub mod ActorTurns
 pub mod ActorLoop
 pub mod ActorSteps
 pub mod ReplayError
-pub mod LawfulLogs

@@ -1,10 +1,10 @@
 -- Why a scenario that is supported was not replayed.
 use Rattle.bc_history.specs.declared.scenario.Scenario.{Scenario}
-use Rattle.bc_history.specs.Run.World.{IsEnd, Events as Too_many}
+use Rattle.bc_history.specs.Run.World.{IsEnd, Events as Too_many, Not_due}
 use Rattle.hub_core.specs.declared.hub.HubError.{HubError}
 use Rattle.hub_core.specs.declared.hub.HubError.TheVariants.{NoMemory as Hub_no_memory, Events as Hub_events}
 use Rattle.bc_replay.specs.declared.run.ReplayError.{ReplayError}
-use Rattle.bc_replay.specs.declared.run.ReplayError.TheVariants.{NoMemory, Events}
+use Rattle.bc_replay.specs.declared.run.ReplayError.TheVariants.{NoMemory, Events, NotDue}
 
 -- the hub took no event
 abbrev pub by_hub : HubError → ReplayError
@@ -15,3 +15,4 @@ by_hub Hub_events = Events
 abbrev pub IsReplayError : Scenario → ReplayError → Type 0
 IsReplayError s NoMemory = Unit {0}
 IsReplayError s Events = IsEnd s Too_many
+IsReplayError s (NotDue turn) = IsEnd s (Not_due turn)

@@ -1,3 +1,2 @@
 -- What holds only of scenarios that are supported so far. It goes when every scenario is served.
-pub mod QuietScenarios
 pub mod SupportedScenarios

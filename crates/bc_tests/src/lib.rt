@@ -5,9 +5,8 @@
 mod call;
 #[cfg(test)]
 mod end_tests;
-pub mod handover;
 #[cfg(test)]
-mod handover_tests;
+mod follower_tests;
 #[cfg(test)]
 mod replay_tests;
 #[cfg(test)]

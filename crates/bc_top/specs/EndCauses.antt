@@ -4,9 +4,9 @@ use Rattle.text_io.specs.declared.reason.Reason.{Reason}
 use Rattle.bc_top.specs.CommandWords.{IsReplay}
 use Rattle.bc_top.specs.ReadToEnd.{IsUnread, IsReadPart, IsReadWhole, IsReadTooFar, IsReadFault}
 use Rattle.bc_top.specs.WriteAll.{IsUnwritten, IsWritten, IsWriteFault}
-use Rattle.bc_top.specs.Call.{Call, IsTranscriptOf, IsRefusal, IsOverfull}
+use Rattle.bc_top.specs.Call.{Call, IsTranscriptOf, IsRefusal, IsOutOfTurn, IsOverfull}
 use Rattle.bc_top.specs.declared.outcome.End.{End}
-use Rattle.bc_top.specs.declared.outcome.End.TheVariants.{Done, Usage, Refused, ReadFault, WriteFault, Events, NoMemory, TooLong}
+use Rattle.bc_top.specs.declared.outcome.End.TheVariants.{Done, Usage, Refused, ReadFault, WriteFault, Events, NoMemory, NotDue, TooLong}
 
 -- the source was read to its end, and the transcript of what was read was written
 pub record IsDone (c : Call) : Type 0 where
@@ -55,6 +55,14 @@ pub record IsTooMany (c : Call) : Type 0 where
   pub overfull : IsOverfull text
   pub unwritten : IsUnwritten c.writes
 
+-- the source was read to its end, and the scenario of what was read ends at a turn that has no step
+pub record IsNotDue (c : Call) (turn : ℕ) : Type 0 where
+  pub replay : IsReplay c.words
+  pub text : List ℕ
+  pub read : IsReadWhole c.reads text
+  pub out_of_turn : IsOutOfTurn text turn
+  pub unwritten : IsUnwritten c.writes
+
 -- the source gave one octet more than a text may have
 pub record IsTooLong (c : Call) : Type 0 where
   pub replay : IsReplay c.words
@@ -75,5 +83,6 @@ IsCaused c (Refused line reason) = IsRefused c line reason
 IsCaused c ReadFault = IsFaultOfReading c
 IsCaused c WriteFault = IsFaultOfWriting c
 IsCaused c Events = IsTooMany c
+IsCaused c (NotDue turn) = IsNotDue c turn
 IsCaused c NoMemory = IsNoMemory c
 IsCaused c TooLong = IsTooLong c

@@ -8,12 +8,12 @@ use Rattle.text_io.specs.declared.reason.Reason.TheVariants.{Unbuilt}
 use Rattle.bc_history.specs.declared.scenario.Scenario.{Scenario}
 use Rattle.bc_history.specs.declared.entry.Run.{Run}
 use Rattle.bc_history.specs.Scenario.LineFaults.{Stands, IsFirstFault}
-use Rattle.bc_history.specs.Run.World.{IsWorld, IsEnd, Events as Too_many}
+use Rattle.bc_history.specs.Run.World.{IsWorld, IsEnd, Events as Too_many, Not_due}
 use Rattle.bc_top.specs.CommandWords.{IsReplay}
 use Rattle.bc_replay.specs.Stage.SupportedScenarios.{IsSupported, IsUnsupported}
 use Rattle.bc_top.specs.Call.{Call}
 use Rattle.bc_top.specs.declared.outcome.End.{End}
-use Rattle.bc_top.specs.declared.outcome.End.TheVariants.{Done, Refused, Events, NoMemory, TooLong}
+use Rattle.bc_top.specs.declared.outcome.End.TheVariants.{Done, Refused, Events, NoMemory, NotDue, TooLong}
 
 -- the end is the one that is due, or there was no memory
 abbrev pub EndsBy : End → End → Type 0
@@ -25,6 +25,8 @@ pub record IsEndAt (text : List ℕ) (end : End) : Type 0 where
       → IsWorld s run → EndsBy Done end
   pub events : length text ≤ TEXT_MAX → (s : Scenario) → Stands text s → IsSupported s
       → IsEnd s Too_many → EndsBy Events end
+  pub not_due : length text ≤ TEXT_MAX → (s : Scenario) (turn : ℕ) → Stands text s → IsSupported s
+      → IsEnd s (Not_due turn) → EndsBy (NotDue turn) end
   pub unsupported : length text ≤ TEXT_MAX → (s : Scenario) → Stands text s → IsUnsupported s
       → EndsBy (Refused 0 Unbuilt) end
   pub refused : length text ≤ TEXT_MAX → (line : ℕ) (reason : Reason)

@@ -25,6 +25,11 @@ pub enum End {
     Events,
     /// There was no memory.
     NoMemory,
+    /// A turn of the schedule has no step: it names an actor that has none, or none has one.
+    NotDue {
+        /// The turn, from 1.
+        turn: u32,
+    },
     /// The source gave more than `TEXT_MAX` octets.
     TooLong,
 }
@@ -42,6 +47,7 @@ impl End {
             End::WriteFault => 4,
             End::Events => 5,
             End::NoMemory => 6,
+            End::NotDue { .. } => 7,
             End::TooLong => 8,
         }
     }
@@ -54,6 +60,8 @@ pub enum NoTranscript {
     Refused { line: u32, reason: Reason },
     /// `ENTRIES_MAX` entries were held and another event was due.
     Events,
+    /// A turn of the schedule has no step.
+    NotDue { turn: u32 },
     /// There was no memory.
     NoMemory,
 }
@@ -69,6 +77,7 @@ impl NoTranscript {
                 reason: *reason,
             },
             NoTranscript::Events => End::Events,
+            NoTranscript::NotDue { turn } => End::NotDue { turn: *turn },
             NoTranscript::NoMemory => End::NoMemory,
         }
     }

@@ -17,6 +17,7 @@ fn each_end_has_its_status(rt: HostRuntime) {
         (End::WriteFault, 4),
         (End::Events, 5),
         (End::NoMemory, 6),
+        (End::NotDue { turn: 1 }, 7),
         (End::TooLong, 8),
     ] {
         assert_eq!(rt; end.status(), status);

@@ -52,6 +52,7 @@ fn transcript_of(alloc: Global, text: &[u8]) -> Result<Octets, NoTranscript>
         Ok(run) => run,
         Err(ReplayError::NoMemory) => return Err(NoTranscript::NoMemory),
         Err(ReplayError::Events) => return Err(NoTranscript::Events),
+        Err(ReplayError::NotDue { turn }) => return Err(NoTranscript::NotDue { turn }),
     };
     match transcript(alloc, &run) {
         Ok(out) => Ok(out),

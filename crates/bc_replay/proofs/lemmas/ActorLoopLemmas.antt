@@ -1,37 +1,46 @@
 -- The loop over the actors is the World.
 use Rattle.std.proofs.Common.{◌≡◌, ◌≢◌, ◌⊎◌, ℕ, zero, suc, ◌+◌, ◌-◌, ◌*◌, ◌<◌, true, false, refl, sym, ap, subst, ◌∙◌, arith, inl, inr, List, [], ◌∷◌, length, map, reverse, get_or, Option, Some, None, option_and_then}
-use Rattle.std.specs.Prelude.{MatchOption, option_map, slice_get, slice_set}
-use Rattle.std.proofs.lemmas.List.Sums.{sum_by-set}
-use Rattle.std.proofs.lemmas.Option.{get_or_from_slice_get, slice_get_within, slice_get-map}
+use Rattle.std.specs.Prelude.{IfErr, IsErrAnd, Result, Ok, Err, MatchOption, option_map, replicate, slice_get, slice_set}
+use Rattle.std.proofs.lemmas.List.Sums.{sum_by-cons, sum_by-set}
+use Rattle.std.proofs.lemmas.Option.{get_or_from_slice_get, same_Some, slice_get_within, slice_get-map}
 use Rattle.ptp_base.specs.declared.limits.TheConstants.{ENTRIES_MAX}
 use Rattle.ptp_base.specs.declared.port_conf.PortConf.{PortConf}
 use Rattle.ptp_profile.specs.declared.seats.Log.{Log}
 use Rattle.ptp_profile.specs.Roles.SeatLogs.{logs_from}
 use Rattle.bc_history.specs.declared.entry.Entry.{Entry}
-use Rattle.bc_history.specs.declared.entry.Input.{Input}
-use Rattle.bc_history.specs.declared.entry.Input.TheVariants.{Frame, Timed, Down, Up, Report, Turn, Sampled, Query}
 use Rattle.bc_history.specs.declared.entry.Run.{Run}
 use Rattle.bc_history.specs.declared.entry.Who.{Who}
-use Rattle.bc_history.specs.declared.entry.Who.TheVariants.{Port}
+use Rattle.bc_history.specs.declared.entry.Who.TheVariants.{Port, Follower, Queries}
+use Rattle.bc_history.specs.declared.scenario.Turner.{Turner}
+use Rattle.bc_history.specs.declared.scenario.Turner.TheVariants.{Default, Port as Port_turn, Clock as Clock_turn, Queries as Queries_turn}
+use Rattle.bc_history.specs.declared.place.FollowerPlace.{FollowerPlace}
+use Rattle.bc_history.specs.declared.place.FollowerPlace.TheVariants.{Turns as Turns_next}
+use Rattle.bc_history.specs.Phases.OpeningState.{follower_count}
+use Rattle.bc_history.specs.Scenario.ScenarioRules.{IsScenario, IsTurnerOf}
 use Rattle.bc_history.specs.declared.place.PortPlace.{PortPlace}
 use Rattle.bc_history.specs.declared.place.PortPlace.TheVariants.{Waits}
+use Rattle.bc_history.specs.declared.scenario.Asked.{Asked}
 use Rattle.bc_history.specs.declared.scenario.Scenario.{Scenario}
-use Rattle.bc_history.specs.declared.scenario.Turns.{Turns}
+use Rattle.bc_history.specs.Phases.Step.{state_of}
+use Rattle.bc_history.specs.Run.NextInputs.{query_input}
 use Rattle.bc_history.specs.Run.Actors.{actor_of, entries_of, is_by, is_same_actor}
-use Rattle.bc_history.specs.Run.World.{Ended, Events, Finished, Going, IsEnd, IsWorld, Of_port, Status, World, default_turn, free_steps, next_status, place_of, run_of, status_after, status_after_turn, step_of, take_step, turner_at, with_place, world_opening}
-use Rattle.hub_core.specs.HubView.{HubState, IsPortInput, hub_at_opening}
-use Rattle.bc_steps.specs.ActorView.{ActorState, AddsOwn, IsIn, IsLevel, IsPlaceOf, IsSameActor, IsSameHistory, due_tick, is_ready, world_with}
+use Rattle.bc_history.specs.Run.World.{End, Ended, Events, Finished, Going, IsEnd, IsWorld, Not_due, Of_follower, Of_port, Status, Step, World, default_turn, free_steps, next_status, place_of, run_of, status_after, status_after_turn, step_of, take_step, turn_of, turner_at, world_opening}
+use Rattle.hub_core.specs.HubView.{HubState, hub_at_opening}
+use Rattle.bc_steps.specs.ActorView.{ActorState, AddsOwn, IsIn, IsJobDue, IsLevel, IsPlaceOf, IsSameActor, IsSameHistory, due_tick, is_ready, place_at_opening, world_with}
+use Rattle.run_legal.specs.Runs.LegalRuns.{IsLegal}
+use Rattle.run_legal.proofs.lemmas.NamedEndLemmas.{run-legal}
+use Rattle.run_legal.proofs.lemmas.StepLemmas.{stays-right}
 use Rattle.bc_replay.specs.declared.run.ReplayError.{ReplayError}
-use Rattle.bc_replay.specs.declared.run.ReplayError.TheVariants.{NoMemory as Lacks, Events as Too_many}
-use Rattle.bc_replay.specs.ActorLoop.{AreIn, AreLevel, LoopRepresents, actor_at_opening, free_steps_of, steps_left}
-use Rattle.bc_replay.specs.ActorSteps.{IsStepError, StepLeadsTo, StepYields}
-use Rattle.bc_replay.specs.ActorTurns.{IsTurnOf, due_actors, turn_among}
+use Rattle.bc_replay.specs.declared.run.ReplayError.TheVariants.{NoMemory as Lacks, Events as Too_many, NotDue as Has_no_step}
+use Rattle.bc_replay.specs.ActorLoop.{AreIn, AreJobsDue, AreLevel, IsPastSchedule, IsUnscheduledLoop, LoopRepresents, acting_of, actor_at_opening, free_steps_of, steps_left}
+use Rattle.bc_replay.specs.ActorSteps.{IsStepError, IsTurnError, StepLeadsTo, StepYields, TurnYields}
+use Rattle.bc_replay.specs.ActorTurns.{HasNoTurn, HasTurns, IsDueAt, IsIdle, IsNamed, IsTurnOf, IsTurnerAt, due_actors, turn_among, turner_or_default}
 use Rattle.bc_replay.specs.ReplayError.{IsReplayError}
-use Rattle.bc_replay.specs.Stage.QuietScenarios.{AreOfPorts, IsQuiet, acting_of}
+use Rattle.bc_replay.specs.Stage.SupportedScenarios.{IsSupported}
 use Rattle.bc_replay.proofs.lemmas.ActorListLemmas.{each-set, map-set}
-use Rattle.bc_replay.proofs.lemmas.ActorPlaceLemmas.{acting-apart, acting-at, entries-other, placed-entries, placed-followers, placed-logs, placed-other, placed-own}
-use Rattle.bc_replay.proofs.lemmas.ActorStepLemmas.{due-ready}
-use Rattle.bc_replay.proofs.lemmas.stage.QuietTurnLemmas.{turn-quiet}
+use Rattle.bc_replay.proofs.lemmas.ActorPlaceLemmas.{IsFollowerAt, IsPortAt, acting-apart, acting-at, acting-follower, acting-port, entries-other, placed-entries, placed-logs, placed-other, placed-own}
+use Rattle.bc_replay.proofs.lemmas.ActorStepLemmas.{due-ready, step-none}
+use Rattle.bc_replay.proofs.lemmas.stage.UnaskedTurnLemmas.{turn-unasked}
 use Rattle.bc_history.proofs.lemmas.CoreInvariantLemmas.{option_map-some}
 
 -- ---- the opening
@@ -53,6 +62,30 @@ level-opening s whos i a there =
     let (who, at, is) = made-for s whos i a there in
     subst (λ (b : ActorState). IsLevel (hub_at_opening s) b) is (record { scenario = refl; entries = refl })
 
+-- nobody has begun a job
+job-opening : (s : Scenario) (who : Who) → IsJobDue s (place_at_opening who)
+job-opening s (Port p) = tt
+job-opening s (Follower c) = tt
+job-opening s Queries = tt
+
+jobs-opening : (s : Scenario) (whos : List Who) → AreJobsDue s (map (actor_at_opening s) whos)
+jobs-opening s whos i a there =
+    let (who, at, is) = made-for s whos i a there in
+    subst (λ (b : ActorState). IsJobDue s b.place) is (job-opening s who)
+
+no-free : (who : Who) → free_steps (place_at_opening who) ≡ 0
+no-free (Port p) = refl
+no-free (Follower c) = refl
+no-free Queries = refl
+
+free-opening : (s : Scenario) (whos : List Who) → free_steps_of (map (actor_at_opening s) whos) ≡ 0
+free-opening s [] = refl
+free-opening s (who ∷ whos) =
+    let sum = sum_by-cons (λ (a : ActorState). free_steps a.place) (actor_at_opening s who) (map (actor_at_opening s) whos) in
+    let one = no-free who in
+    let others = free-opening s whos in
+    omega (arith, sum, one, others)
+
 waits-at : (confs : List PortConf) (i : ℕ) → i < length confs → slice_get (map (λ (c : PortConf). Waits) confs) i ≡ Some Waits
 waits-at [] i lt = absurd (omega (arith, lt))
 waits-at (conf ∷ confs) zero lt = refl
@@ -61,63 +94,121 @@ waits-at (conf ∷ confs) (suc i) lt = waits-at confs i (omega (arith, lt))
 port-opening : (s : Scenario) (i : ℕ) → i < length s.ports → place_of (world_opening s) (Port (suc i)) ≡ Some (Of_port Waits)
 port-opening s i lt = ap (λ (o : Option PortPlace). option_map (λ (p : PortPlace). Of_port p) o) (waits-at s.ports i lt)
 
-acting-opening : (s : Scenario) (i : ℕ) (who : Who) → who ≡ Port (1 + i) → i < length s.ports → place_of (world_opening s) (actor_at_opening s who).who ≡ Some (actor_at_opening s who).place
-acting-opening s i who is lt =
+turns-at : (n c : ℕ) → c < n → slice_get (replicate n Turns_next) c ≡ Some Turns_next
+turns-at zero c lt = absurd (omega (arith, lt))
+turns-at (suc n) zero lt = refl
+turns-at (suc n) (suc c) lt = turns-at n c (omega (arith, lt))
+
+follower-opening : (s : Scenario) (c : ℕ) → c < follower_count s → place_of (world_opening s) (Follower c) ≡ Some (Of_follower Turns_next)
+follower-opening s c lt = ap (λ (o : Option FollowerPlace). option_map (λ (p : FollowerPlace). Of_follower p) o) (turns-at (follower_count s) c lt)
+
+acting-opening : (s : Scenario) (i : ℕ) (who : Who) → IsPortAt s i who ⊎ IsFollowerAt s i who → place_of (world_opening s) (actor_at_opening s who).who ≡ Some (actor_at_opening s who).place
+acting-opening s i who (inl at) =
     let next : 1 + i ≡ suc i = omega arith in
-    rw (is, next) (port-opening s i lt)
+    rw (at.is, next) (port-opening s i at.there)
+acting-opening s i who (inr at) = rw at.is (follower-opening s at.clock at.there)
 
 places-opening : (s : Scenario) (i : ℕ) (a : ActorState) → slice_get (map (actor_at_opening s) (acting_of s)) i ≡ Some a → place_of (world_opening s) a.who ≡ Some a.place
 places-opening s i a there =
     let (who, at, is) = made-for s (acting_of s) i a there in
-    let port = acting-at s i who at in
-    subst (λ (b : ActorState). place_of (world_opening s) b.who ≡ Some b.place) is (acting-opening s i who port.0 port.1)
+    subst (λ (b : ActorState). place_of (world_opening s) b.who ≡ Some b.place) is (acting-opening s i who (acting-at s i who at))
 
 -- a hub and its actors begin where the World does
-pub Loop-opening : (s : Scenario) → LoopRepresents s (hub_at_opening s) (map (actor_at_opening s) (acting_of s))
+pub Loop-opening : (s : Scenario) → LoopRepresents s 0 (hub_at_opening s) (map (actor_at_opening s) (acting_of s))
 unfolding status_after
 Loop-opening s = record {
   scenario = refl;
   few = omega arith;
   acting = whos-opening s (acting_of s);
   level = level-opening s (acting_of s);
-  turns = 0;
+  jobs = jobs-opening s (acting_of s);
+  bound = let none = free-opening s (acting_of s) in omega (arith, none);
   world = world_opening s;
   going = refl;
   stand = record { entries = refl; logs = refl; places = places-opening s };
-  others = record { of_ports = tt; followers = refl };
 }
 
 -- ---- a turn
 
--- behind a turn with no line of a schedule the World is where the default rule leads
-turn-default : (s : Scenario) (n : ℕ) (w : World) (turns : List Turns) (who : Option Who) → status_after s n ≡ Going w → s.turns ≡ turns → turns ≡ [] → default_turn s w ≡ who
-    → status_after s (suc n) ≡ take_step w (Finished (run_of s w)) (option_and_then (step_of s w) who)
-unfolding status_after
-turn-default s n w turns who going turns_are none named =
-    ap (status_after_turn s n) going
-    ∙ (ap (λ (lines : List Turns). next_status s n w (turner_at lines n)) (turns_are ∙ none)
-    ∙ ap (λ (o : Option Who). take_step w (Finished (run_of s w)) (option_and_then (step_of s w) o)) named)
-
 -- a loop where the World is, by its hub's own scenario
-abbrev IsAt : HubState → List ActorState → Type 0
-IsAt hub actors = LoopRepresents hub.scenario hub actors
+abbrev IsAt : ℕ → HubState → List ActorState → Type 0
+IsAt taken hub actors = LoopRepresents hub.scenario taken hub actors
 
-turn-status : (hub : HubState) (actors : List ActorState) (who : Option Who) → IsQuiet hub.scenario → (at : IsAt hub actors) → turn_among (due_actors hub actors) ≡ who
-    → status_after hub.scenario (suc at.turns) ≡ take_step at.world (Finished (run_of hub.scenario at.world)) (option_and_then (step_of hub.scenario at.world) who)
-turn-status hub actors who quiet at named =
-    turn-default hub.scenario at.turns at.world [] who at.going quiet.unscheduled refl
-    (turn-quiet hub at.world actors quiet at.others at.stand at.acting ∙ named)
+-- who an actor of the loop is
+pub who-at : (s : Scenario) (actors : List ActorState) (i : ℕ) (a : ActorState) → map who_of actors ≡ acting_of s → slice_get actors i ≡ Some a → slice_get (acting_of s) i ≡ Some a.who
+who-at s actors i a acting there =
+    ap (λ (whos : List Who). slice_get whos i) (sym acting) ∙ (slice_get-map who_of actors i ∙ ap (λ (o : Option ActorState). option_map who_of o) there)
 
 -- an actor stands in the World
 stands-in : (hub : HubState) (w : World) (actors : List ActorState) (i : ℕ) (a : ActorState) → AreIn w hub actors → slice_get actors i ≡ Some a → IsIn w hub a
 stands-in hub w actors i a stand there = record { entries = stand.entries; logs = stand.logs; place = stand.places i a there }
 
+-- who is named has the turn in the World
+named-turn : (hub : HubState) (w : World) (actors : List ActorState) (turner : Turner) (who : Who) → IsSupported hub.scenario → AreIn w hub actors → map who_of actors ≡ acting_of hub.scenario
+    → IsNamed hub actors turner who → turn_of hub.scenario w turner ≡ Some who
+named-turn hub w actors Default who unasked stand acting named = turn-unasked hub w actors unasked stand acting ∙ named
+named-turn hub w actors (Port_turn p) who unasked stand acting named = ap Some (sym named)
+named-turn hub w actors (Clock_turn c) who unasked stand acting named = ap Some (sym named)
+named-turn hub w actors Queries_turn who unasked stand acting named = ap Some (sym named)
+
+-- whom an index is of
+actor-of : (actors : List ActorState) (i : ℕ) (who : Who) → slice_get (map who_of actors) i ≡ Some who → (a : ActorState) × (slice_get actors i ≡ Some a) × (who_of a ≡ who)
+actor-of actors i who there = option_map-some who_of (slice_get actors i) who (sym (slice_get-map who_of actors i) ∙ there)
+
+-- an actor that is idle has no step in the World
+idle-none : (hub : HubState) (w : World) (actors : List ActorState) (i : ℕ) (who : Who) → AreIn w hub actors → map who_of actors ≡ acting_of hub.scenario → AreJobsDue hub.scenario actors
+    → slice_get (acting_of hub.scenario) i ≡ Some who → IsIdle hub actors who → step_of hub.scenario w who ≡ None
+idle-none hub w actors i who stand acting jobs there idle =
+    let (a, at, is) = actor-of actors i who (ap (λ (whos : List Who). slice_get whos i) acting ∙ there) in
+    subst (λ (x : Who). step_of hub.scenario w x ≡ None) is (step-none hub w a (stands-in hub w actors i a stand at) (jobs i a at) (idle i a at is))
+
+-- nobody asks
+query-stays : (hub : HubState) (w : World) → IsSupported hub.scenario → step_of hub.scenario w Queries ≡ None
+query-stays hub w none =
+    let gone : query_input hub.scenario (state_of hub.scenario w.entries) ≡ None = ap (λ (qs : List Asked). slice_get qs (state_of hub.scenario w.entries).queries) none in
+    rw gone refl
+
+-- where none has a turn that is named there is no step
+no-turn : (hub : HubState) (w : World) (actors : List ActorState) (turner : Turner) → IsSupported hub.scenario → AreIn w hub actors → map who_of actors ≡ acting_of hub.scenario → AreJobsDue hub.scenario actors
+    → IsTurnerOf (length hub.scenario.clocks) (length hub.scenario.ports) turner → HasNoTurn hub actors turner → option_and_then (step_of hub.scenario w) (turn_of hub.scenario w turner) ≡ None
+no-turn hub w actors Default unasked stand acting jobs there none = rw (turn-unasked hub w actors unasked stand acting ∙ none) refl
+no-turn hub w actors (Port_turn zero) unasked stand acting jobs there none = let first = there.0 in absurd (omega (arith, first))
+no-turn hub w actors (Port_turn (suc i)) unasked stand acting jobs there none =
+    let last = there.1 in
+    idle-none hub w actors i (Port (suc i)) stand acting jobs (acting-port hub.scenario i (omega (arith, last))) none
+no-turn hub w actors (Clock_turn c) unasked stand acting jobs there none =
+    idle-none hub w actors (length hub.scenario.ports + c) (Follower c) stand acting jobs (acting-follower hub.scenario c there) none
+no-turn hub w actors Queries_turn unasked stand acting jobs there none = query-stays hub w unasked
+
+-- the World behind a turn, by whose it is
+abbrev end_at : Scenario → ℕ → World → Option Turner → End
+end_at s n w None = Finished (run_of s w)
+end_at s n w (Some turner) = Not_due (n + 1)
+
+by-turner : (s : Scenario) (n : ℕ) (w : World) (line : Option Turner) → next_status s n w line ≡ take_step w (end_at s n w line) (option_and_then (step_of s w) (turn_of s w (turner_or_default line)))
+by-turner s n w None = refl
+by-turner s n w (Some turner) = refl
+
+turn-status : (hub : HubState) (taken : ℕ) (actors : List ActorState) (turner : Turner) (at : IsAt taken hub actors) → IsTurnerAt hub.scenario taken turner
+    → status_after hub.scenario (taken + 1) ≡ take_step at.world (end_at hub.scenario taken at.world (turner_at hub.scenario.turns taken)) (option_and_then (step_of hub.scenario at.world) (turn_of hub.scenario at.world turner))
+unfolding status_after
+turn-status hub taken actors turner at is =
+    let s = hub.scenario in
+    let next : taken + 1 ≡ suc taken = omega arith in
+    ap (status_after s) next
+    ∙ (ap (status_after_turn s taken) at.going
+    ∙ (by-turner s taken at.world (turner_at s.turns taken)
+    ∙ ap (λ (t : Turner). take_step at.world (end_at s taken at.world (turner_at s.turns taken)) (option_and_then (step_of s at.world) (turn_of s at.world t))) is))
+
 -- where the step of the actor whose turn it is leads, the World is behind the turn
-turn-leads : (hub : HubState) (actors : List ActorState) (i : ℕ) (turn : IsTurnOf hub actors i) (next : World → Status) → IsQuiet hub.scenario → (at : IsAt hub actors) → StepLeadsTo hub turn.actor next
-    → status_after hub.scenario (suc at.turns) ≡ next at.world
-turn-leads hub actors i turn next quiet at leads =
-    turn-status hub actors (Some turn.actor.who) quiet at turn.named
-    ∙ leads at.world (Finished (run_of hub.scenario at.world)) (stands-in hub at.world actors i turn.actor at.stand turn.there)
+turn-leads : (hub : HubState) (taken : ℕ) (actors : List ActorState) (turner : Turner) (i : ℕ) (turn : IsTurnOf hub actors turner i) (next : World → Status) → IsSupported hub.scenario → (at : IsAt taken hub actors) → IsTurnerAt hub.scenario taken turner
+    → StepLeadsTo hub turn.at.actor next → status_after hub.scenario (taken + 1) ≡ next at.world
+turn-leads hub taken actors turner i turn next unasked at is leads =
+    let s = hub.scenario in
+    let named = named-turn hub at.world actors turner turn.at.actor.who unasked at.stand at.acting turn.named in
+    turn-status hub taken actors turner at is
+    ∙ (ap (λ (o : Option Who). take_step at.world (end_at s taken at.world (turner_at s.turns taken)) (option_and_then (step_of s at.world) o)) named
+    ∙ leads at.world (end_at s taken at.world (turner_at s.turns taken)) (stands-in hub at.world actors i turn.at.actor at.stand turn.at.there))
 
 -- ---- what a step leaves
 
@@ -140,28 +231,6 @@ level-after who old new x (inr same) differ level = record {
   entries = ap (entries_of x.who) same.entries ∙ level.entries;
 }
 
--- an entry of a port has an input of a port
-port-input : (p : ℕ) (input : Input) → is_same_actor (Port p) (actor_of input) ≡ true → IsPortInput input
-port-input p (Frame port tick octets) own = refl
-port-input p (Timed port tick timer) own = refl
-port-input p (Down port tick) own = refl
-port-input p (Up port tick) own = refl
-port-input p (Report port tick gener action outcome) own = refl
-port-input p (Turn clock tick) own = cc
-port-input p (Sampled clock tick lead theirs ours action outcome) own = cc
-port-input p (Query tick text) own = cc
-
-of_ports-after : (p : ℕ) (who : Who) (old new : HubState) → who ≡ Port p → GoesOn who old new → AreOfPorts old.entries → AreOfPorts new.entries
-of_ports-after p who old new is (inl adds) all =
-    subst AreOfPorts (sym adds.more) (port-input p adds.entry.input (subst (λ (x : Who). is_by x adds.entry ≡ true) is adds.own), all)
-of_ports-after p who old new is (inr same) all = subst AreOfPorts (sym same.entries) all
-
--- the followers' places are as before
-followers-after : (p : ℕ) (w : World) (new : HubState) (b : ActorState) → b.who ≡ Port p → (world_with w new b).followers ≡ w.followers
-followers-after p w new b is =
-    ap (λ (who : Who). (with_place who b.place (record w { entries = new.entries; logs = new.logs })).followers) is
-    ∙ placed-followers (record w { entries = new.entries; logs = new.logs }) p b.place
-
 -- the actor stands in the World behind its step
 own-after : (w : World) (hub new : HubState) (a b : ActorState) → IsSameActor a b → IsPlaceOf b.who b.place → place_of w a.who ≡ Some a.place → place_of (world_with w new b) b.who ≡ Some b.place
 own-after w hub new a b same kind there =
@@ -171,89 +240,23 @@ own-after w hub new a b same kind there =
 other-after : (w : World) (new : HubState) (b x : ActorState) → is_same_actor x.who b.who ≡ false → place_of w x.who ≡ Some x.place → place_of (world_with w new b) x.who ≡ Some x.place
 other-after w new b x differ there = placed-other (record w { entries = new.entries; logs = new.logs }) b.who x.who b.place differ ∙ there
 
--- who an actor of the loop is
-who-at : (s : Scenario) (actors : List ActorState) (i : ℕ) (a : ActorState) → map who_of actors ≡ acting_of s → slice_get actors i ≡ Some a → slice_get (acting_of s) i ≡ Some a.who
-who-at s actors i a acting there =
-    ap (λ (whos : List Who). slice_get whos i) (sym acting) ∙ (slice_get-map who_of actors i ∙ ap (λ (o : Option ActorState). option_map who_of o) there)
-
 -- another actor of the loop is another
 who-apart : (s : Scenario) (actors : List ActorState) (i j : ℕ) (a x : ActorState) → map who_of actors ≡ acting_of s → slice_get actors i ≡ Some a → slice_get actors j ≡ Some x → j ≢ i → is_same_actor x.who a.who ≡ false
 who-apart s actors i j a x acting there other differ = acting-apart s j i x.who a.who (who-at s actors j x acting other) (who-at s actors i a acting there) differ
 
-stand-after : (hub new : HubState) (actors : List ActorState) (i : ℕ) (turn : IsTurnOf hub actors i) (b : ActorState) (at : IsAt hub actors) → StepYields hub turn.actor new b
-    → AreIn (world_with at.world new b) new (slice_set actors i b)
-stand-after hub new actors i turn b at made =
-    let w : World = record at.world { entries = new.entries; logs = new.logs } in
+stand-after : (hub new : HubState) (taken : ℕ) (actors : List ActorState) (i : ℕ) (at : IsDueAt hub actors i) (b : ActorState) (loop : IsAt taken hub actors) → StepYields hub at.actor new b
+    → AreIn (world_with loop.world new b) new (slice_set actors i b)
+stand-after hub new taken actors i at b loop made =
+    let w : World = record loop.world { entries = new.entries; logs = new.logs } in
     record {
       entries = placed-entries w b.who b.place;
       logs = placed-logs w b.who b.place;
-      places = each-set (λ (j : ℕ) (x : ActorState). place_of (world_with at.world new b) x.who ≡ Some x.place) actors i b
-          (λ j x differ there. other-after at.world new b x
-          (subst (λ (who : Who). is_same_actor x.who who ≡ false) (sym made.actor.who) (who-apart hub.scenario actors i j turn.actor x at.acting turn.there there differ))
-          (at.stand.places j x there))
-          (own-after at.world hub new turn.actor b made.actor made.kind (at.stand.places i turn.actor turn.there));
+      places = each-set (λ (j : ℕ) (x : ActorState). place_of (world_with loop.world new b) x.who ≡ Some x.place) actors i b
+          (λ j x differ there. other-after loop.world new b x
+          (subst (λ (who : Who). is_same_actor x.who who ≡ false) (sym made.actor.who) (who-apart hub.scenario actors i j at.actor x loop.acting at.there there differ))
+          (loop.stand.places j x there))
+          (own-after loop.world hub new at.actor b made.actor made.kind (loop.stand.places i at.actor at.there));
     }
-
-step-by : (hub new : HubState) (actors : List ActorState) (i : ℕ) (turn : IsTurnOf hub actors i) (b : ActorState) → IsQuiet hub.scenario → IsAt hub actors → StepYields hub turn.actor new b
-    → LoopRepresents hub.scenario new (slice_set actors i b)
-step-by hub new actors i turn b quiet at made =
-    let s = hub.scenario in
-    let a = turn.actor in
-    let port = acting-at s i a.who (who-at s actors i a at.acting turn.there) in
-    record {
-      scenario = scenario-after a.who hub new made.history;
-      few = made.few;
-      acting = map-set who_of actors i a b turn.there made.actor.who ∙ at.acting;
-      level = each-set (λ (j : ℕ) (x : ActorState). IsLevel new x) actors i b
-          (λ j x differ there. level-after a.who hub new x made.history (who-apart s actors i j a x at.acting turn.there there differ) (at.level j x there)) made.level;
-      turns = suc at.turns;
-      world = world_with at.world new b;
-      going = turn-leads hub actors i turn (λ (w : World). Going (world_with w new b)) quiet at made.going;
-      stand = stand-after hub new actors i turn b at made;
-      others = record {
-        of_ports = of_ports-after (1 + i) a.who hub new port.0 made.history at.others.of_ports;
-        followers = followers-after (1 + i) at.world new b (made.actor.who ∙ port.0) ∙ at.others.followers;
-      };
-    }
-
--- each step keeps to the World
-pub Loop-step : (s : Scenario) (hub new : HubState) (actors : List ActorState) (i : ℕ) (b : ActorState) (turn : IsTurnOf hub actors i) → IsQuiet s → LoopRepresents s hub actors → StepYields hub turn.actor new b
-    → LoopRepresents s new (slice_set actors i b)
-Loop-step s hub new actors i b turn quiet at made =
-    let P : Scenario → Type 0 = λ (t : Scenario). IsQuiet t → LoopRepresents t hub actors → LoopRepresents t new (slice_set actors i b) in
-    let by : P s = subst P at.scenario (λ q l. step-by hub new actors i turn b q l made) in
-    by quiet at
-
--- ---- the ends
-
-none-by : (hub : HubState) (actors : List ActorState) → IsQuiet hub.scenario → IsAt hub actors → turn_among (due_actors hub actors) ≡ None
-    → (w : World) × (w.entries ≡ hub.entries) × (w.logs ≡ hub.logs) × IsWorld hub.scenario (run_of hub.scenario w)
-none-by hub actors quiet at none = (at.world, at.stand.entries, at.stand.logs, (suc at.turns, turn-status hub actors None quiet at none))
-
--- where nobody has a step the run is that of the World
-pub Loop-done : (s : Scenario) (hub : HubState) (actors : List ActorState) → IsQuiet s → LoopRepresents s hub actors → turn_among (due_actors hub actors) ≡ None
-    → (w : World) × (w.entries ≡ hub.entries) × (w.logs ≡ hub.logs) × IsWorld s (run_of s w)
-Loop-done s hub actors quiet at none =
-    let P : Scenario → Type 0 = λ (t : Scenario). IsQuiet t → LoopRepresents t hub actors → (w : World) × (w.entries ≡ hub.entries) × (w.logs ≡ hub.logs) × IsWorld t (run_of t w) in
-    let by : P s = subst P at.scenario (λ q l. none-by hub actors q l none) in
-    by quiet at
-
-full-by : (hub : HubState) (actors : List ActorState) (i : ℕ) (turn : IsTurnOf hub actors i) → IsQuiet hub.scenario → IsAt hub actors → IsStepError hub turn.actor Too_many → IsEnd hub.scenario Events
-full-by hub actors i turn quiet at full = (suc at.turns, turn-leads hub actors i turn (λ (w : World). Ended Events) quiet at full)
-
--- where the hub is full the scenario ends at one event too many
-pub Loop-full : (s : Scenario) (hub : HubState) (actors : List ActorState) (i : ℕ) (turn : IsTurnOf hub actors i) → IsQuiet s → LoopRepresents s hub actors → IsStepError hub turn.actor Too_many → IsEnd s Events
-Loop-full s hub actors i turn quiet at full =
-    let P : Scenario → Type 0 = λ (t : Scenario). IsQuiet t → LoopRepresents t hub actors → IsEnd t Events in
-    let by : P s = subst P at.scenario (λ q l. full-by hub actors i turn q l full) in
-    by quiet at
-
--- ---- what the code asks
-
--- the reason why an actor took no step is one of the scenario
-pub turn-error : (s : Scenario) (hub : HubState) (actors : List ActorState) (i : ℕ) (turn : IsTurnOf hub actors i) (error : ReplayError) → IsQuiet s → LoopRepresents s hub actors → IsStepError hub turn.actor error → IsReplayError s error
-turn-error s hub actors i turn Lacks quiet at is = tt
-turn-error s hub actors i turn Too_many quiet at is = Loop-full s hub actors i turn quiet at is
 
 -- of the sum of all, the part that one has
 less-of : (room room' sum sum' one one' : ℕ) → sum' + one ≡ sum + one' → room' + one' < room + one → room' + sum' < room + sum
@@ -269,59 +272,192 @@ fewer-after hub new actors i a b there less =
     less-of (4 * (ENTRIES_MAX - length hub.entries)) (4 * (ENTRIES_MAX - length new.entries)) (free_steps_of actors) (free_steps_of (slice_set actors i b)) (f a) (f b)
     (subst (λ n. free_steps_of (slice_set actors i b) + n ≡ free_steps_of actors + f b) at sums) less
 
+step-by : (hub new : HubState) (taken : ℕ) (actors : List ActorState) (turner : Turner) (i : ℕ) (turn : IsTurnOf hub actors turner i) (b : ActorState) → IsSupported hub.scenario → IsAt taken hub actors → IsTurnerAt hub.scenario taken turner
+    → StepYields hub turn.at.actor new b → LoopRepresents hub.scenario (taken + 1) new (slice_set actors i b)
+step-by hub new taken actors turner i turn b unasked at is made =
+    let s = hub.scenario in
+    let a = turn.at.actor in
+    let less = fewer-after hub new actors i a b turn.at.there made.fewer in
+    let bound = at.bound in
+    record {
+      scenario = scenario-after a.who hub new made.history;
+      few = made.few;
+      acting = map-set who_of actors i a b turn.at.there made.actor.who ∙ at.acting;
+      level = each-set (λ (j : ℕ) (x : ActorState). IsLevel new x) actors i b
+          (λ j x differ there. level-after a.who hub new x made.history (who-apart s actors i j a x at.acting turn.at.there there differ) (at.level j x there)) made.level;
+      jobs = each-set (λ (j : ℕ) (x : ActorState). IsJobDue s x.place) actors i b
+          (λ j x differ there. at.jobs j x there)
+          (subst (λ (t : Scenario). IsJobDue t b.place) (made.actor.scenario ∙ (at.level i a turn.at.there).scenario) made.job);
+      bound = omega (arith, bound, less);
+      world = world_with at.world new b;
+      going = turn-leads hub taken actors turner i turn (λ (w : World). Going (world_with w new b)) unasked at is made.going;
+      stand = stand-after hub new taken actors i turn.at b at made;
+    }
+
+-- each step keeps to the World
+pub Loop-step : (s : Scenario) (taken : ℕ) (hub new : HubState) (actors : List ActorState) (turner : Turner) (i : ℕ) (b : ActorState) (turn : IsTurnOf hub actors turner i) → IsSupported s → LoopRepresents s taken hub actors → IsTurnerAt s taken turner
+    → StepYields hub turn.at.actor new b → LoopRepresents s (taken + 1) new (slice_set actors i b)
+Loop-step s taken hub new actors turner i b turn unasked at is made =
+    let P : Scenario → Type 0 = λ (t : Scenario). IsSupported t → LoopRepresents t taken hub actors → IsTurnerAt t taken turner → LoopRepresents t (taken + 1) new (slice_set actors i b) in
+    let by : P s = subst P at.scenario (λ q l m. step-by hub new taken actors turner i turn b q l m made) in
+    by unasked at is
+
+-- ---- the ends
+
+-- the World behind a turn that has no step
+none-status : (hub : HubState) (taken : ℕ) (actors : List ActorState) (turner : Turner) → IsSupported hub.scenario → (at : IsAt taken hub actors) → IsTurnerAt hub.scenario taken turner
+    → IsTurnerOf (length hub.scenario.clocks) (length hub.scenario.ports) turner → HasNoTurn hub actors turner
+    → status_after hub.scenario (taken + 1) ≡ Ended (end_at hub.scenario taken at.world (turner_at hub.scenario.turns taken))
+none-status hub taken actors turner unasked at is there none =
+    turn-status hub taken actors turner at is
+    ∙ ap (λ (step : Option Step). take_step at.world (end_at hub.scenario taken at.world (turner_at hub.scenario.turns taken)) step)
+    (no-turn hub at.world actors turner unasked at.stand at.acting at.jobs there none)
+
+none-by : (hub : HubState) (taken : ℕ) (actors : List ActorState) → IsSupported hub.scenario → IsAt taken hub actors → turner_at hub.scenario.turns taken ≡ None → HasNoTurn hub actors Default
+    → (w : World) × (w.entries ≡ hub.entries) × (w.logs ≡ hub.logs) × IsWorld hub.scenario (run_of hub.scenario w)
+none-by hub taken actors unasked at past none = (
+  at.world,
+  at.stand.entries,
+  at.stand.logs,
+  (
+    taken + 1,
+    none-status hub taken actors Default unasked at (ap turner_or_default past) tt none
+        ∙ ap (λ (line : Option Turner). Ended (end_at hub.scenario taken at.world line)) past,
+  ),
+)
+
+-- where nobody has a step behind the schedule the run is that of the World
+pub Loop-done : (s : Scenario) (taken : ℕ) (hub : HubState) (actors : List ActorState) → IsSupported s → LoopRepresents s taken hub actors → turner_at s.turns taken ≡ None → HasNoTurn hub actors Default
+    → (w : World) × (w.entries ≡ hub.entries) × (w.logs ≡ hub.logs) × IsWorld s (run_of s w)
+Loop-done s taken hub actors unasked at past none =
+    let P : Scenario → Type 0 = λ (t : Scenario). IsSupported t → LoopRepresents t taken hub actors → turner_at t.turns taken ≡ None → (w : World) × (w.entries ≡ hub.entries) × (w.logs ≡ hub.logs) × IsWorld t (run_of t w) in
+    let by : P s = subst P at.scenario (λ q l m. none-by hub taken actors q l m none) in
+    by unasked at past
+
+stop-by : (hub : HubState) (taken : ℕ) (actors : List ActorState) (turner : Turner) → IsSupported hub.scenario → IsAt taken hub actors → turner_at hub.scenario.turns taken ≡ Some turner
+    → IsTurnerOf (length hub.scenario.clocks) (length hub.scenario.ports) turner → HasNoTurn hub actors turner → IsEnd hub.scenario (Not_due (taken + 1))
+stop-by hub taken actors turner unasked at line there none = (
+  taken + 1,
+  none-status hub taken actors turner unasked at (ap turner_or_default line) there none
+      ∙ ap (λ (o : Option Turner). Ended (end_at hub.scenario taken at.world o)) line,
+)
+
+-- where the schedule names one who has no step the scenario ends at that turn
+pub Loop-stops : (s : Scenario) (taken : ℕ) (hub : HubState) (actors : List ActorState) (turner : Turner) → IsSupported s → LoopRepresents s taken hub actors → turner_at s.turns taken ≡ Some turner
+    → IsTurnerOf (length s.clocks) (length s.ports) turner → HasNoTurn hub actors turner → IsEnd s (Not_due (taken + 1))
+Loop-stops s taken hub actors turner unasked at line there none =
+    let P : Scenario → Type 0 = λ (t : Scenario). IsSupported t → LoopRepresents t taken hub actors → turner_at t.turns taken ≡ Some turner → IsTurnerOf (length t.clocks) (length t.ports) turner → IsEnd t (Not_due (taken + 1)) in
+    let by : P s = subst P at.scenario (λ q l m k. stop-by hub taken actors turner q l m k none) in
+    by unasked at line there
+
+full-by : (hub : HubState) (taken : ℕ) (actors : List ActorState) (turner : Turner) (i : ℕ) (turn : IsTurnOf hub actors turner i) → IsSupported hub.scenario → IsAt taken hub actors → IsTurnerAt hub.scenario taken turner
+    → IsStepError hub turn.at.actor Too_many → IsEnd hub.scenario Events
+full-by hub taken actors turner i turn unasked at is full = (taken + 1, turn-leads hub taken actors turner i turn (λ (w : World). Ended Events) unasked at is full)
+
+-- where the hub is full the scenario ends at one event too many
+pub Loop-full : (s : Scenario) (taken : ℕ) (hub : HubState) (actors : List ActorState) (turner : Turner) (i : ℕ) (turn : IsTurnOf hub actors turner i) → IsSupported s → LoopRepresents s taken hub actors → IsTurnerAt s taken turner
+    → IsStepError hub turn.at.actor Too_many → IsEnd s Events
+Loop-full s taken hub actors turner i turn unasked at is full =
+    let P : Scenario → Type 0 = λ (t : Scenario). IsSupported t → LoopRepresents t taken hub actors → IsTurnerAt t taken turner → IsEnd t Events in
+    let by : P s = subst P at.scenario (λ q l m. full-by hub taken actors turner i turn q l m full) in
+    by unasked at is
+
+-- ---- what the code asks
+
+-- the reason why an actor took no step is one of the scenario
+turn-error : (s : Scenario) (taken : ℕ) (hub : HubState) (actors : List ActorState) (turner : Turner) (i : ℕ) (turn : IsTurnOf hub actors turner i) (error : ReplayError) → IsSupported s → LoopRepresents s taken hub actors → IsTurnerAt s taken turner
+    → IsStepError hub turn.at.actor error → IsReplayError s error
+turn-error s taken hub actors turner i turn Lacks unasked at line is = tt
+turn-error s taken hub actors turner i turn Too_many unasked at line is = Loop-full s taken hub actors turner i turn unasked at line is
+turn-error s taken hub actors turner i turn (Has_no_step t) unasked at line is = absurd is
+
+-- a turn that was taken keeps to the World
+pub taken-step : (s : Scenario) (taken : ℕ) (hub new : HubState) (actors after : List ActorState) (turner : Turner) (i : ℕ) → IsTurnOf hub actors turner i → IsSupported s → LoopRepresents s taken hub actors → IsTurnerAt s taken turner
+    → TurnYields hub actors i new after → LoopRepresents s (taken + 1) new after
+taken-step s taken hub new actors after turner i turn unasked at line made =
+    let same : made.actor ≡ turn.at.actor = same_Some made.actor turn.at.actor (sym made.there ∙ turn.at.there) in
+    subst (λ (xs : List ActorState). LoopRepresents s (taken + 1) new xs) (sym made.others)
+    (Loop-step s taken hub new actors turner i made.after turn unasked at line (subst (λ (a : ActorState). StepYields hub a new made.after) same made.step))
+
+-- and leaves fewer steps
+pub taken-fewer : (hub new : HubState) (actors after : List ActorState) (i : ℕ) → TurnYields hub actors i new after → steps_left new (free_steps_of after) < steps_left hub (free_steps_of actors)
+taken-fewer hub new actors after i made =
+    subst (λ (xs : List ActorState). steps_left new (free_steps_of xs) < steps_left hub (free_steps_of actors)) (sym made.others)
+    (fewer-after hub new actors i made.actor made.after made.there made.step.fewer)
+
+-- a turn that was not taken says how the scenario ends
+pub taken-error : (s : Scenario) (taken : ℕ) (hub : HubState) (actors : List ActorState) (turner : Turner) (i : ℕ) (error : ReplayError) → IsTurnOf hub actors turner i → IsSupported s → LoopRepresents s taken hub actors → IsTurnerAt s taken turner
+    → IsTurnError hub actors i error → IsReplayError s error
+taken-error s taken hub actors turner i error turn unasked at line is = turn-error s taken hub actors turner i turn error unasked at line (is turn.at.actor turn.at.there)
+
 -- the run that the hub parts with is that of the World
-pub finished : (s : Scenario) (hub : HubState) (actors : List ActorState) (entries : List Entry) (logs : List Log) → IsQuiet s → LoopRepresents s hub actors → turn_among (due_actors hub actors) ≡ None
+finished : (s : Scenario) (hub : HubState) (actors : List ActorState) (entries : List Entry) (logs : List Log) → IsSupported s → IsUnscheduledLoop s hub actors → HasNoTurn hub actors Default
     → entries ≡ reverse hub.entries → logs ≡ logs_from 0 hub.scenario.clocks hub.logs → IsWorld s (record { entries = entries; logs = logs })
-finished s hub actors entries logs quiet at none entries_are logs_are =
-    let (w, has, logged, world) = Loop-done s hub actors quiet at none in
+finished s hub actors entries logs unasked at none entries_are logs_are =
+    let (w, has, logged, world) = Loop-done s at.taken hub actors unasked at.loop (at.past at.taken (omega arith)) none in
     let made : List Entry → List Log → Run = λ (es : List Entry) (ls : List Log). record { entries = es; logs = ls } in
     let entries_of_w : entries ≡ reverse w.entries = entries_are ∙ ap reverse (sym has) in
     let logs_of_w : logs ≡ logs_from 0 s.clocks w.logs =
-    logs_are ∙ (ap (λ (t : Scenario). logs_from 0 t.clocks hub.logs) at.scenario ∙ ap (logs_from 0 s.clocks) (sym logged)) in
+    logs_are ∙ (ap (λ (t : Scenario). logs_from 0 t.clocks hub.logs) at.loop.scenario ∙ ap (logs_from 0 s.clocks) (sym logged)) in
     let same : made entries logs ≡ run_of s w = ap (λ (es : List Entry). made es logs) entries_of_w ∙ ap (λ (ls : List Log). made (reverse w.entries) ls) logs_of_w in
     subst (IsWorld s) (sym same) world
+
+-- so is the run that is assembled
+pub finished-run : (s : Scenario) (hub : HubState) (actors : List ActorState) (entries : List Entry) (logs : List Log) (run : Run) → IsSupported s → IsUnscheduledLoop s hub actors → HasNoTurn hub actors Default
+    → entries ≡ reverse hub.entries → logs ≡ logs_from 0 hub.scenario.clocks hub.logs → run ≡ record { entries = entries; logs = logs } → IsWorld s run
+finished-run s hub actors entries logs run unasked at none entries_are logs_are run_is = subst (IsWorld s) (sym run_is) (finished s hub actors entries logs unasked at none entries_are logs_are)
+
+-- and it is legal
+pub finished-legal : (s : Scenario) (hub : HubState) (actors : List ActorState) (entries : List Entry) (logs : List Log) (run : Run) → IsScenario s → IsSupported s → IsUnscheduledLoop s hub actors → HasNoTurn hub actors Default
+    → entries ≡ reverse hub.entries → logs ≡ logs_from 0 hub.scenario.clocks hub.logs → run ≡ record { entries = entries; logs = logs } → IsLegal s run
+finished-legal s hub actors entries logs run rules unasked at none entries_are logs_are run_is =
+    run-legal s rules (stays-right s rules) run (finished-run s hub actors entries logs run unasked at none entries_are logs_are run_is)
+
+-- ---- whose turn was found
+
+-- whose turn it is, of the actors that were looked at
+pub found-turn : (hub : HubState) (actors seen : List ActorState) (turner : Turner) (i : ℕ) (result : Option ℕ) → result ≡ Some i → seen ≡ actors
+    → MatchOption result (HasNoTurn hub seen turner) (IsTurnOf hub seen turner) → IsTurnOf hub actors turner i
+found-turn hub actors seen turner i None is same found = cc
+found-turn hub actors seen turner i (Some j) is same found =
+    let index : j ≡ i = same_Some j i is in
+    subst (λ (k : ℕ). IsTurnOf hub actors turner k) index (subst (λ (xs : List ActorState). IsTurnOf hub xs turner j) same found)
+
+-- and where it is nobody's
+pub found-none : (hub : HubState) (actors seen : List ActorState) (turner : Turner) (result : Option ℕ) → result ≡ None → seen ≡ actors
+    → MatchOption result (HasNoTurn hub seen turner) (IsTurnOf hub seen turner) → HasNoTurn hub actors turner
+found-none hub actors seen turner None none same found = subst (λ (xs : List ActorState). HasNoTurn hub xs turner) same found
+found-none hub actors seen turner (Some j) none same found = cc
+
+-- an error that was handed on
+pub handed-on : {T : Type 0} (P : ReplayError → Type 0) (result : Result T ReplayError) (error : ReplayError) → IsErrAnd result (λ e. e ≡ error) → P error → IfErr result P
+handed-on P (Ok x) error is cause = tt
+handed-on P (Err e) error is cause = subst P (sym is) cause
+
+-- ---- what is lent of an actor
 
 -- the actor that an index lends is the one there
 indexed : (actors : List ActorState) (i : ℕ) (a x : ActorState) → slice_get actors i ≡ Some a → x ≡ get_or actors i x → a ≡ x
 indexed actors i a x there is = sym (is ∙ get_or_from_slice_get actors i a x there)
 
--- what is lent of the actor whose turn it is
-pub record IsLent (s : Scenario) (hub : HubState) (actors : List ActorState) (i : ℕ) (x : ActorState) : Type 0 where
-  pub quiet : IsQuiet s
-  pub going : LoopRepresents s hub actors
-  pub turn : IsTurnOf hub actors i
-  pub is : x ≡ get_or actors i x
+pub lent-there : (hub : HubState) (actors : List ActorState) (i : ℕ) (x : ActorState) → IsDueAt hub actors i → x ≡ get_or actors i x → slice_get actors i ≡ Some x
+lent-there hub actors i x at is = at.there ∙ ap Some (indexed actors i at.actor x at.there is)
 
-pub lent-level : (s : Scenario) (hub : HubState) (actors : List ActorState) (i : ℕ) (x : ActorState) → IsLent s hub actors i x → IsLevel hub x
-lent-level s hub actors i x lent = subst (IsLevel hub) (indexed actors i lent.turn.actor x lent.turn.there lent.is) (lent.going.level i lent.turn.actor lent.turn.there)
+pub lent-level : (hub : HubState) (actors : List ActorState) (i : ℕ) (x : ActorState) → AreLevel hub actors → IsDueAt hub actors i → x ≡ get_or actors i x → IsLevel hub x
+lent-level hub actors i x level at is = level i x (lent-there hub actors i x at is)
 
-pub lent-ready : (s : Scenario) (hub : HubState) (actors : List ActorState) (i until : ℕ) (x : ActorState) → IsLent s hub actors i x → until ≡ s.options.duration → is_ready until hub x ≡ true
-lent-ready s hub actors i until x lent until_is =
-    due-ready hub x lent.turn.tick until
-    (ap (due_tick hub) (sym (indexed actors i lent.turn.actor x lent.turn.there lent.is)) ∙ lent.turn.due)
-    (until_is ∙ ap (λ (t : Scenario). t.options.duration) (sym lent.going.scenario))
+pub lent-ready : (hub : HubState) (actors : List ActorState) (i until : ℕ) (x : ActorState) → IsDueAt hub actors i → x ≡ get_or actors i x → until ≡ hub.scenario.options.duration → is_ready until hub x ≡ true
+lent-ready hub actors i until x at is until_is =
+    due-ready hub x at.tick until (ap (due_tick hub) (sym (indexed actors i at.actor x at.there is)) ∙ at.due) until_is
 
-pub lent-step : (s : Scenario) (hub new : HubState) (actors : List ActorState) (i : ℕ) (x b : ActorState) → IsLent s hub actors i x → StepYields hub x new b → LoopRepresents s new (slice_set actors i b)
-lent-step s hub new actors i x b lent made =
-    Loop-step s hub new actors i b lent.turn lent.quiet lent.going
-    (subst (λ (y : ActorState). StepYields hub y new b) (sym (indexed actors i lent.turn.actor x lent.turn.there lent.is)) made)
+pub lent-step : (hub new : HubState) (actors after : List ActorState) (i : ℕ) (x b : ActorState) → IsDueAt hub actors i → x ≡ get_or actors i x → after ≡ slice_set actors i b → StepYields hub x new b → TurnYields hub actors i new after
+lent-step hub new actors after i x b at is others made = record { actor = x; there = lent-there hub actors i x at is; after = b; step = made; others = others }
 
-pub lent-fewer : (s : Scenario) (hub new : HubState) (actors : List ActorState) (i : ℕ) (x b : ActorState) → IsLent s hub actors i x → StepYields hub x new b
-    → steps_left new (free_steps_of (slice_set actors i b)) < steps_left hub (free_steps_of actors)
-lent-fewer s hub new actors i x b lent made =
-    fewer-after hub new actors i x b (lent.turn.there ∙ ap Some (indexed actors i lent.turn.actor x lent.turn.there lent.is)) made.fewer
-
-pub lent-error : (s : Scenario) (hub : HubState) (actors : List ActorState) (i : ℕ) (x : ActorState) (error : ReplayError) → IsLent s hub actors i x → IsStepError hub x error → IsReplayError s error
-lent-error s hub actors i x error lent is =
-    turn-error s hub actors i lent.turn error lent.quiet lent.going
-    (subst (λ (y : ActorState). IsStepError hub y error) (sym (indexed actors i lent.turn.actor x lent.turn.there lent.is)) is)
+pub lent-error : (hub : HubState) (actors : List ActorState) (i : ℕ) (x : ActorState) (error : ReplayError) → IsDueAt hub actors i → x ≡ get_or actors i x → IsStepError hub x error → IsTurnError hub actors i error
+lent-error hub actors i x error at is cause = λ a there.
+    subst (λ (y : ActorState). IsStepError hub y error) (same_Some x a (sym (lent-there hub actors i x at is) ∙ there)) cause
 
 -- ---- the loop
 
-pub loop-begins : (s : Scenario) (hub : HubState) (actors : List ActorState) → hub ≡ hub_at_opening s → actors ≡ map (actor_at_opening s) (acting_of s) → LoopRepresents s hub actors
+pub loop-begins : (s : Scenario) (hub : HubState) (actors : List ActorState) → hub ≡ hub_at_opening s → actors ≡ map (actor_at_opening s) (acting_of s) → LoopRepresents s 0 hub actors
 loop-begins s hub actors hub_is actors_are = rw (hub_is, actors_are) (Loop-opening s)
-
-pub none-named : (hub : HubState) (actors seen : List ActorState) (turn : Option ℕ) → turn ≡ None → seen ≡ actors → MatchOption turn (turn_among (due_actors hub seen) ≡ None) (IsTurnOf hub seen)
-    → turn_among (due_actors hub actors) ≡ None
-none-named hub actors seen None none same is = ap (λ (xs : List ActorState). turn_among (due_actors hub xs)) (sym same) ∙ is
-none-named hub actors seen (Some i) none same is = cc

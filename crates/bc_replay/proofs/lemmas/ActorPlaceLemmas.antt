@@ -1,16 +1,16 @@
 -- Who acts, where they are at first, and where they are once one is at another place.
-use Rattle.std.proofs.Common.{◌≡◌, ◌≢◌, ℕ, zero, suc, ◌+◌, ◌<◌, Bool, true, false, eqb, refl, sym, ap, ◌∙◌, arith, inl, inr, List, [], ◌∷◌, ◌++◌, length, map, Option, Some, None}
+use Rattle.std.proofs.Common.{◌≡◌, ◌≢◌, ℕ, zero, suc, ◌+◌, ◌<◌, ◌≤◌, Bool, true, false, eqb, leb, le-leb, length-append, ◌⊎◌, refl, sym, ap, subst, ◌∙◌, arith, inl, inr, List, [], ◌∷◌, ◌++◌, length, map, Option, Some, None}
 use Rattle.std.specs.Prelude.{Contains, option_map, slice_get}
 use Rattle.std.specs.List.{range_with_len}
 use Rattle.std.proofs.lemmas.Bool.Decides.{eqb_tells}
-use Rattle.std.proofs.lemmas.List.Elements.{Contains-append_left}
+use Rattle.std.proofs.lemmas.List.Elements.{Contains-append_left, Contains-append_right}
 use Rattle.std.proofs.lemmas.List.FromFn.{get_or-map-range_with_len, length-map-range_with_len, map-range_with_len_more}
-use Rattle.std.proofs.lemmas.List.{map-append}
+use Rattle.std.proofs.lemmas.List.{append_assoc, map-append}
 use Rattle.bc_history.specs.declared.entry.Entry.{Entry}
 use Rattle.bc_history.specs.declared.entry.Who.{Who}
 use Rattle.bc_history.specs.declared.entry.Who.TheVariants.{Port, Follower, Queries}
 use Rattle.bc_history.specs.declared.place.PortPlace.{PortPlace}
-use Rattle.bc_history.specs.Run.FollowerPlace.{FollowerPlace}
+use Rattle.bc_history.specs.declared.place.FollowerPlace.{FollowerPlace}
 use Rattle.bc_history.specs.Phases.Inputs.{port_at}
 use Rattle.bc_history.specs.Phases.OpeningState.{follower_count}
 use Rattle.bc_history.specs.Run.Actors.{actor_of, actors_of, entries_of, is_by, is_same_actor}
@@ -18,8 +18,7 @@ use Rattle.bc_history.specs.Run.World.{Of_follower, Of_port, Of_queries, Place, 
 use Rattle.bc_history.proofs.lemmas.CoreInvariantLemmas.{port_at-at_port, port_at-elsewhere, slice_get-changed_at, slice_get-changed_elsewhere}
 use Rattle.bc_history.specs.declared.scenario.Scenario.{Scenario}
 use Rattle.bc_steps.specs.ActorView.{ActorState, IsPlaceOf}
-use Rattle.bc_replay.specs.ActorLoop.{actor_at_opening}
-use Rattle.bc_replay.specs.Stage.QuietScenarios.{acting_of}
+use Rattle.bc_replay.specs.ActorLoop.{acting_of, actor_at_opening}
 
 -- ---- two actors
 
@@ -73,48 +72,162 @@ entries-other who other e before own differ = by_test (is_by other e) refl
 
 -- ---- who acts
 
-port-at : (a n i : ℕ) (who : Who) → slice_get (map (λ p. Port p) (range_with_len a n)) i ≡ Some who → (who ≡ Port (a + i)) × (i < n)
-port-at a zero i who there = cc
-port-at a (suc n) zero who there =
+-- an element of a list of images of numbers in a row
+at-range : (f : ℕ → Who) (a n i : ℕ) (who : Who) → slice_get (map f (range_with_len a n)) i ≡ Some who → (who ≡ f (a + i)) × (i < n)
+at-range f a zero i who there = cc
+at-range f a (suc n) zero who there =
     let first : a ≡ a + 0 = omega arith in
-    let same : Port a ≡ who = cc in
-    (sym same ∙ ap (λ p. Port p) first, omega arith)
-port-at a (suc n) (suc i) who there =
-    let rest = port-at (a + 1) n i who there in
+    let same : f a ≡ who = cc in
+    (sym same ∙ ap f first, omega arith)
+at-range f a (suc n) (suc i) who there =
+    let rest = at-range f (a + 1) n i who there in
     let more : a + 1 + i ≡ a + suc i = omega arith in
-    (rest.0 ∙ ap (λ p. Port p) more, omega (arith, rest.1))
+    (rest.0 ∙ ap f more, omega (arith, rest.1))
+
+-- an element of two lists is one of the first, or one of the second
+split-at : (xs ys : List Who) (i : ℕ) (who : Who) → slice_get (xs ++ ys) i ≡ Some who
+    → (slice_get xs i ≡ Some who) ⊎ ((j : ℕ) × (i ≡ length xs + j) × (slice_get ys j ≡ Some who))
+split-at [] ys i who there = inr (i, omega arith, there)
+split-at (x ∷ xs) ys zero who there = inl there
+split-at (x ∷ xs) ys (suc i) who there = elim (split-at xs ys i who there) [
+  | inl first ↦ inl first
+  | inr (j, at, second) ↦ inr (j, omega (arith, at), second)
+]
+
+ports-long : (s : Scenario) → length (map (λ p. Port p) (range_with_len 1 (length s.ports))) ≡ length s.ports
+ports-long s = length-map-range_with_len (λ p. Port p) 1 (length s.ports)
 
 -- who acts by index i is port i + 1
-pub acting-at : (s : Scenario) (i : ℕ) (who : Who) → slice_get (acting_of s) i ≡ Some who → (who ≡ Port (1 + i)) × (i < length s.ports)
-acting-at s i who there = port-at 1 (length s.ports) i who there
+pub record IsPortAt (s : Scenario) (i : ℕ) (who : Who) : Type 0 where
+  pub is : who ≡ Port (1 + i)
+  pub there : i < length s.ports
+
+-- or the follower of a clock, behind all ports
+pub record IsFollowerAt (s : Scenario) (i : ℕ) (who : Who) : Type 0 where
+  pub clock : ℕ
+  pub is : who ≡ Follower clock
+  pub at : i ≡ length s.ports + clock
+  pub there : clock < follower_count s
+
+pub acting-at : (s : Scenario) (i : ℕ) (who : Who) → slice_get (acting_of s) i ≡ Some who → IsPortAt s i who ⊎ IsFollowerAt s i who
+acting-at s i who there = elim (split-at (map (λ p. Port p) (range_with_len 1 (length s.ports))) (map (λ c. Follower c) (range_with_len 0 (follower_count s))) i who there) [
+  | inl first ↦ let at = at-range (λ p. Port p) 1 (length s.ports) i who first in inl (record { is = at.0; there = at.1 })
+  | inr (j, at, second) ↦
+      let found = at-range (λ c. Follower c) 0 (follower_count s) j who second in
+      let none : 0 + j ≡ j = omega arith in
+      let long = ports-long s in
+      inr (record { clock = j; is = found.0 ∙ ap (λ c. Follower c) none; at = omega (arith, at, long); there = found.1 })
+]
+
+-- an image of a number in a row
+in-range : (f : ℕ → Who) (a n i : ℕ) → i < n → slice_get (map f (range_with_len a n)) i ≡ Some (f (a + i))
+in-range f a zero i lt = absurd (omega (arith, lt))
+in-range f a (suc n) zero lt = let first : a ≡ a + 0 = omega arith in ap (λ k. Some (f k)) first
+in-range f a (suc n) (suc i) lt =
+    let more : a + 1 + i ≡ a + suc i = omega arith in
+    in-range f (a + 1) n i (omega (arith, lt)) ∙ ap (λ k. Some (f k)) more
+
+-- an element of the first of two lists, and of the second
+in-first : (xs ys : List Who) (i : ℕ) (who : Who) → slice_get xs i ≡ Some who → slice_get (xs ++ ys) i ≡ Some who
+in-first [] ys i who there = cc
+in-first (x ∷ xs) ys zero who there = there
+in-first (x ∷ xs) ys (suc i) who there = in-first xs ys i who there
+
+in-second : (xs ys : List Who) (i j : ℕ) (who : Who) → i ≡ length xs + j → slice_get ys j ≡ Some who → slice_get (xs ++ ys) i ≡ Some who
+in-second [] ys i j who at there = let same : i ≡ j = omega (arith, at) in ap (slice_get ys) same ∙ there
+in-second (x ∷ xs) ys zero j who at there = absurd (omega (arith, at))
+in-second (x ∷ xs) ys (suc i) j who at there = in-second xs ys i j who (omega (arith, at)) there
+
+-- where each port is among those who act
+pub acting-port : (s : Scenario) (i : ℕ) → i < length s.ports → slice_get (acting_of s) i ≡ Some (Port (suc i))
+acting-port s i lt =
+    let next : 1 + i ≡ suc i = omega arith in
+    in-first (map (λ p. Port p) (range_with_len 1 (length s.ports))) (map (λ c. Follower c) (range_with_len 0 (follower_count s))) i (Port (suc i))
+    (in-range (λ p. Port p) 1 (length s.ports) i lt ∙ ap (λ p. Some (Port p)) next)
+
+-- where there are two clocks or more each has a follower
+pub follower-many : (s : Scenario) → 2 ≤ length s.clocks → follower_count s ≡ length s.clocks
+follower-many s many = let enough : leb 2 (length s.clocks) ≡ true = le-leb 2 (length s.clocks) many in rw enough refl
+
+-- and each follower
+pub acting-follower : (s : Scenario) (c : ℕ) → (2 ≤ length s.clocks) × (c < length s.clocks) → slice_get (acting_of s) (length s.ports + c) ≡ Some (Follower c)
+acting-follower s c there =
+    let all = follower-many s there.0 in
+    let lt : c < follower_count s = subst (λ n. c < n) (sym all) there.1 in
+    let none : 0 + c ≡ c = omega arith in
+    let ports = map (λ p. Port p) (range_with_len 1 (length s.ports)) in
+    let at : length s.ports + c ≡ length ports + c = ap (λ n. n + c) (sym (ports-long s)) in
+    in-second ports (map (λ d. Follower d) (range_with_len 0 (follower_count s))) (length s.ports + c) c (Follower c) at
+    (in-range (λ d. Follower d) 0 (follower_count s) c lt ∙ ap (λ d. Some (Follower d)) none)
+
+-- how many act
+pub acting-length : (s : Scenario) → length (acting_of s) ≡ length s.ports + follower_count s
+acting-length s =
+    length-append (map (λ p. Port p) (range_with_len 1 (length s.ports))) (map (λ c. Follower c) (range_with_len 0 (follower_count s)))
+    ∙ (ap (λ n. n + length (map (λ c. Follower c) (range_with_len 0 (follower_count s)))) (ports-long s)
+    ∙ ap (λ n. length s.ports + n) (length-map-range_with_len (λ c. Follower c) 0 (follower_count s)))
 
 -- a port acts
 pub port-acts : (s : Scenario) (i : ℕ) → i < length s.ports → Contains (actors_of s) (Port (i + 1))
 port-acts s i lt =
     let ports = map (λ p. Port p) (range_with_len 1 (length s.ports)) in
     let followers = map (λ c. Follower c) (range_with_len 0 (follower_count s)) in
-    let long : length ports ≡ length s.ports = length-map-range_with_len (λ p. Port p) 1 (length s.ports) in
+    let long : length ports ≡ length s.ports = ports-long s in
     let next : 1 + i ≡ i + 1 = omega arith in
     let here : Contains ports (Port (i + 1)) = (i, omega (arith, long, lt), get_or-map-range_with_len (λ p. Port p) 1 (length s.ports) i (i + 1) (Port (i + 1)) lt next) in
     Contains-append_left (ports ++ followers) (Queries ∷ []) (Port (i + 1)) (Contains-append_left ports followers (Port (i + 1)) here)
 
-ports-apart : (i j : ℕ) → i ≢ j → is_same_actor (Port (1 + i)) (Port (1 + j)) ≡ false
-ports-apart i j other = elim (eqb_tells (1 + i) (1 + j)) [
-  | inl same ↦ absurd (other (let is = same.1 in let back : i ≡ j = omega (arith, is) in back))
+-- and so does a follower
+pub follower-acts : (s : Scenario) (c : ℕ) → c < follower_count s → Contains (actors_of s) (Follower c)
+follower-acts s c lt =
+    let ports = map (λ p. Port p) (range_with_len 1 (length s.ports)) in
+    let followers = map (λ d. Follower d) (range_with_len 0 (follower_count s)) in
+    let long : length followers ≡ follower_count s = length-map-range_with_len (λ d. Follower d) 0 (follower_count s) in
+    let none : 0 + c ≡ c = omega arith in
+    let here : Contains followers (Follower c) = (c, omega (arith, long, lt), get_or-map-range_with_len (λ d. Follower d) 0 (follower_count s) c c (Follower c) lt none) in
+    Contains-append_left (ports ++ followers) (Queries ∷ []) (Follower c) (Contains-append_right ports followers (Follower c) here)
+
+numbers-apart : (a b : ℕ) → a ≢ b → eqb a b ≡ false
+numbers-apart a b other = elim (eqb_tells a b) [
+  | inl same ↦ absurd (other same.1)
   | inr differ ↦ differ.0
 ]
 
+apart : (s : Scenario) (i j : ℕ) (one other : Who) → IsPortAt s i one ⊎ IsFollowerAt s i one → IsPortAt s j other ⊎ IsFollowerAt s j other → i ≢ j → is_same_actor one other ≡ false
+apart s i j one other (inl first) (inl second) differ = rw (first.is, second.is) (numbers-apart (1 + i) (1 + j) (λ same. differ (omega (arith, same))))
+apart s i j one other (inl first) (inr second) differ = rw (first.is, second.is) refl
+apart s i j one other (inr first) (inl second) differ = rw (first.is, second.is) refl
+apart s i j one other (inr first) (inr second) differ =
+    let at = first.at in
+    let behind = second.at in
+    rw (first.is, second.is) (numbers-apart first.clock second.clock (λ same. differ (omega (arith, same, at, behind))))
+
 -- who acts by two indices are two
 pub acting-apart : (s : Scenario) (i j : ℕ) (one other : Who) → slice_get (acting_of s) i ≡ Some one → slice_get (acting_of s) j ≡ Some other → i ≢ j → is_same_actor one other ≡ false
-acting-apart s i j one other first second differ = rw ((acting-at s i one first).0, (acting-at s j other second).0) (ports-apart i j differ)
+acting-apart s i j one other first second differ = apart s i j one other (acting-at s i one first) (acting-at s j other second) differ
 
--- one port more was made
-pub actors-more : (s : Scenario) (i : ℕ) (actors more : List ActorState) (a : ActorState) → actors ≡ map (actor_at_opening s) (map (λ p. Port p) (range_with_len 1 i)) → more ≡ actors ++ a ∷ []
-    → a ≡ actor_at_opening s (Port (i + 1)) → more ≡ map (actor_at_opening s) (map (λ p. Port p) (range_with_len 1 (i + 1)))
-actors-more s i actors more a actors_are more_is a_is =
-    let next : 1 + i ≡ i + 1 = omega arith in
-    let ports = map (λ p. Port p) (range_with_len 1 i) in
-    rw (more_is, actors_are, a_is) (sym (ap (map (actor_at_opening s)) (map-range_with_len_more (λ p. Port p) 1 i (i + 1) next) ∙ map-append (actor_at_opening s) ports (Port (i + 1) ∷ [])))
+-- ports acts by one index alone
+pub port-index : (s : Scenario) (i p : ℕ) (who : Who) → IsPortAt s i who ⊎ IsFollowerAt s i who → who ≡ Port p → 1 + i ≡ p
+port-index s i p who (inl at) is = let same : Port (1 + i) ≡ Port p = sym at.is ∙ is in cc
+port-index s i p who (inr at) is = let same : Follower at.clock ≡ Port p = sym at.is ∙ is in cc
+
+-- and so does a follower
+pub follower-index : (s : Scenario) (i c : ℕ) (who : Who) → IsPortAt s i who ⊎ IsFollowerAt s i who → who ≡ Follower c → i ≡ length s.ports + c
+follower-index s i c who (inl at) is = let same : Port (1 + i) ≡ Follower c = sym at.is ∙ is in cc
+follower-index s i c who (inr at) is = let same : at.clock ≡ c = follower-same at.clock c (sym at.is ∙ is) in at.at ∙ ap (λ d. length s.ports + d) same
+  where
+    follower-same : (a b : ℕ) → Follower a ≡ Follower b → a ≡ b
+    follower-same a b same = cc
+
+-- one actor more was made
+pub made-more : (s : Scenario) (f : ℕ → Who) (first i next : ℕ) (before actors more : List ActorState) (a : ActorState) → actors ≡ before ++ map (actor_at_opening s) (map f (range_with_len first i)) → more ≡ actors ++ a ∷ []
+    → a ≡ actor_at_opening s (f next) → first + i ≡ next → more ≡ before ++ map (actor_at_opening s) (map f (range_with_len first (i + 1)))
+made-more s f first i next before actors more a actors_are more_is a_is at =
+    let made = map (actor_at_opening s) (map f (range_with_len first i)) in
+    let last = actor_at_opening s (f next) in
+    let longer : map (actor_at_opening s) (map f (range_with_len first (i + 1))) ≡ made ++ last ∷ [] =
+    ap (map (actor_at_opening s)) (map-range_with_len_more f first i next at) ∙ map-append (actor_at_opening s) (map f (range_with_len first i)) (f next ∷ []) in
+    rw (more_is, actors_are, a_is) (append_assoc before made (last ∷ []) ∙ ap (λ (xs : List ActorState). before ++ xs) (sym longer))
 
 -- ---- one actor at another place
 
@@ -184,9 +297,3 @@ placed-logs w (Follower d) Of_queries = refl
 placed-logs w Queries (Of_port place) = refl
 placed-logs w Queries (Of_follower place) = refl
 placed-logs w Queries Of_queries = refl
-
--- a port's place is none of a follower
-pub placed-followers : (w : World) (p : ℕ) (place : Place) → (with_place (Port p) place w).followers ≡ w.followers
-placed-followers w p (Of_port place) = refl
-placed-followers w p (Of_follower place) = refl
-placed-followers w p Of_queries = refl

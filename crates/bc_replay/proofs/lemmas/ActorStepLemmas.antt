@@ -4,6 +4,8 @@ use Rattle.std.proofs.lemmas.Bool.{cases_lt, lt-leb}
 use Rattle.std.specs.Prelude.{option_map, slice_get, IfErr, IsErrAnd, Result, Ok, Err}
 use Rattle.ptp_base.specs.declared.limits.TheConstants.{ENTRIES_MAX}
 use Rattle.bc_history.specs.declared.entry.Input.{Input}
+use Rattle.bc_history.specs.declared.entry.Input.TheVariants.{Turn, Query}
+use Rattle.bc_history.specs.Phases.EntryEffects.{entry_after}
 use Rattle.bc_history.specs.declared.entry.Who.{Who}
 use Rattle.bc_history.specs.declared.entry.Who.TheVariants.{Port, Follower, Queries}
 use Rattle.bc_history.specs.declared.scenario.Scenario.{Scenario}
@@ -14,14 +16,15 @@ use Rattle.bc_history.specs.Phases.State.{State}
 use Rattle.bc_history.specs.Phases.State.{Follower as Following}
 use Rattle.bc_history.specs.Phases.Step.{state_of}
 use Rattle.bc_history.specs.Run.NextInputs.{next_input, query_input, turn_tick}
-use Rattle.bc_history.specs.Run.FollowerPlace.{FollowerPlace, Turns_next, Reads_theirs, Reads_own, Exchanges_own, Samples}
+use Rattle.bc_history.specs.declared.place.FollowerPlace.{FollowerPlace}
+use Rattle.bc_history.specs.declared.place.FollowerPlace.TheVariants.{Turns as Turns_next, ReadsTheirs as Reads_theirs, ReadsOwn as Reads_own, Exchanges as Exchanges_own, Samples}
 use Rattle.bc_history.specs.declared.place.PortPlace.{PortPlace}
 use Rattle.bc_history.specs.declared.place.PortPlace.TheVariants.{Waits, Exchanges, Reports}
-use Rattle.bc_history.specs.Run.World.{End, Ended, Event, Events, Going, Of_follower, Of_port, Of_queries, Place, Step, World, due_by_end, follower_due, follower_step, free_steps, is_due, is_inside, place_due, place_of, port_due, port_event, port_reading, port_step, query_step, step_from, step_of, take_step}
+use Rattle.bc_history.specs.Run.World.{End, Ended, Event, Events, Going, Of_follower, Of_port, Of_queries, Place, Step, World, due_by_end, follower_due, follower_event, follower_step, free_steps, is_due, is_inside, place_due, place_of, port_due, port_event, port_reading, port_step, query_step, step_from, step_of, take_step, with_entry}
 use Rattle.hub_core.specs.HubView.{HubState}
 use Rattle.hub_core.specs.declared.hub.HubError.{HubError}
 use Rattle.hub_core.specs.declared.hub.HubError.TheVariants.{NoMemory as Hub_no_memory, Events as Hub_events}
-use Rattle.bc_steps.specs.ActorView.{ActorState, AddsOwn, IsIn, IsLevel, IsPlaceOf, IsSameActor, due_tick, is_ready, world_with}
+use Rattle.bc_steps.specs.ActorView.{ActorState, AddsOwn, IsIn, IsJobDue, IsLevel, IsPlaceOf, IsSameActor, due_tick, is_ready, world_with}
 use Rattle.bc_replay.specs.ActorSteps.{IsStepError, StepLeadsTo, StepYields}
 use Rattle.bc_replay.specs.declared.run.ReplayError.{ReplayError}
 use Rattle.bc_replay.specs.ReplayError.{by_hub}
@@ -185,6 +188,7 @@ pub record IsEventOf (until : ℕ) (hub : HubState) (a : ActorState) (new : HubS
   pub level : IsLevel new b
   pub actor : IsSameActor a b
   pub kind : IsPlaceOf b.who b.place
+  pub job : IsJobDue b.scenario b.place
 
 event-made : (until : ℕ) (hub new : HubState) (a b : ActorState) (result : Result Bool HubError) → IsEventOf until hub a new b result → result ≡ Ok true → StepYields hub a new b
 event-made until hub new a b result made is =
@@ -200,6 +204,7 @@ event-made until hub new a b result made is =
       level = made.level;
       actor = made.actor;
       kind = made.kind;
+      job = made.job;
       fewer = omega (arith, more, room, free);
     }
   where
@@ -213,3 +218,69 @@ event-made until hub new a b result made is =
 pub event-yields : (until : ℕ) (hub new : HubState) (a b : ActorState) (result : Result Bool HubError) (taken : Bool) → IsEventOf until hub a new b result → result ≡ Ok taken → StepYields hub a new b
 event-yields until hub new a b result true made is = event-made until hub new a b result made is
 event-yields until hub new a b result false made is = let both : true ≡ false = sym made.ready ∙ made.waits is in cc
+
+-- ---- where nothing is due there is no step
+
+-- nothing is due of a tick that is past the end
+past : (s : Scenario) (tick : ℕ) (step : Option Step) → cond (is_due s tick) (Some tick) None ≡ None → cond (is_due s tick) step None ≡ None
+past s tick step = by_test (is_due s tick)
+  where
+    by_test : (b : Bool) → cond b (Some tick) None ≡ None → cond b step None ≡ None
+    by_test true none = cc
+    by_test false none = refl
+
+-- a tick in the middle of a job is due
+never-past : (s : Scenario) (tick : ℕ) → is_due s tick ≡ true → cond (is_due s tick) (Some tick) None ≡ None → ⊥
+never-past s tick due none = let some : cond (is_due s tick) (Some tick) None ≡ Some tick = rw due refl in let both : Some tick ≡ None = sym some ∙ none in cc
+
+abbrev due_or_none : Scenario → Option ℕ → Option ℕ
+due_or_none s tick = option_and_then (λ (t : ℕ). cond (is_due s t) (Some t) None) tick
+
+port-none : (s : Scenario) (w : World) (p : ℕ) (h : HubPort) (place : PortPlace) → IsJobDue s (Of_port place) → due_or_none s (port_due s h place) ≡ None → port_step s w p h place ≡ None
+port-none s w p h Waits job none = by_input (next_input s h) none
+  where
+    by_input : (input : Option Input) → due_or_none s (option_map tick_of input) ≡ None
+        → option_and_then (λ (i : Input). cond (is_due s (tick_of i)) (Some (Event (port_event s w p i (port_reading s w h i)))) None) input ≡ None
+    by_input None none = refl
+    by_input (Some i) none = past s (tick_of i) (Some (Event (port_event s w p i (port_reading s w h i)))) none
+port-none s w p h (Exchanges at held action) job none = absurd (never-past s at job none)
+port-none s w p h (Reports at gener action outcome) job none = absurd (never-past s at job none)
+
+follower-none : (s : Scenario) (w : World) (c : ℕ) (f : Following) (place : FollowerPlace) → IsJobDue s (Of_follower place) → due_or_none s (Some (follower_due s f place)) ≡ None → follower_step s w c f place ≡ None
+follower-none s w c f Turns_next job none = past s (turn_tick s f) (Some (Event (follower_event s w c (Turn c (turn_tick s f))))) none
+follower-none s w c f (Reads_theirs at lead) job none = absurd (never-past s at job none)
+follower-none s w c f (Reads_own at lead theirs) job none = absurd (never-past s at job none)
+follower-none s w c f (Exchanges_own at lead theirs own action) job none = absurd (never-past s at job none)
+follower-none s w c f (Samples at lead theirs own action outcome) job none = absurd (never-past s at job none)
+
+port-gone : (s : Scenario) (w : World) (p : ℕ) (place : PortPlace) (port : Option HubPort) → IsJobDue s (Of_port place)
+    → due_or_none s (option_and_then (λ (h : HubPort). port_due s h place) port) ≡ None → option_and_then (λ (h : HubPort). port_step s w p h place) port ≡ None
+port-gone s w p place None job none = refl
+port-gone s w p place (Some h) job none = port-none s w p h place job none
+
+follower-gone : (s : Scenario) (w : World) (c : ℕ) (place : FollowerPlace) (follower : Option Following) → IsJobDue s (Of_follower place)
+    → due_or_none s (option_map (λ (f : Following). follower_due s f place) follower) ≡ None → option_and_then (λ (f : Following). follower_step s w c f place) follower ≡ None
+follower-gone s w c place None job none = refl
+follower-gone s w c place (Some f) job none = follower-none s w c f place job none
+
+query-gone : (s : Scenario) (w : World) (asked : Option Asked) → due_or_none s (option_map (λ (q : Asked). q.tick) asked) ≡ None → query_step s w asked ≡ None
+query-gone s w None none = refl
+query-gone s w (Some q) none = past s q.tick (Some (Event (with_entry w (entry_after s w.entries (Query q.tick q.text) None)))) none
+
+-- whoever it is
+place-none : (s : Scenario) (w : World) (who : Who) (place : Place) → IsJobDue s place → due_by_end s (state_of s w.entries) who place ≡ None → step_from s w who place ≡ None
+place-none s w (Port p) (Of_port place) job none = port-gone s w p place (port_at (state_of s w.entries).core.ports p) job none
+place-none s w (Port p) (Of_follower place) job none = refl
+place-none s w (Port p) Of_queries job none = refl
+place-none s w (Follower c) (Of_port place) job none = refl
+place-none s w (Follower c) (Of_follower place) job none = follower-gone s w c place (slice_get (state_of s w.entries).followers c) job none
+place-none s w (Follower c) Of_queries job none = refl
+place-none s w Queries (Of_port place) job none = refl
+place-none s w Queries (Of_follower place) job none = refl
+place-none s w Queries Of_queries job none = query-gone s w (query_input s (state_of s w.entries)) none
+
+-- an actor of which nothing is due has no step in a World in which it stands
+pub step-none : (hub : HubState) (w : World) (a : ActorState) → IsIn w hub a → IsJobDue hub.scenario a.place → due_tick hub a ≡ None → step_of hub.scenario w a.who ≡ None
+step-none hub w a stands job none =
+    step-at hub.scenario w a.who a.place stands.place
+    ∙ place-none hub.scenario w a.who a.place job (ap (λ es. due_by_end hub.scenario (state_of hub.scenario es) a.who a.place) stands.entries ∙ none)

@@ -1,5 +1,5 @@
 -- Whose turn it is among the actors: by a search, and by the default rule.
-use Rattle.std.proofs.Common.{◌≡◌, ℕ, ◌+◌, ◌≤◌, Bool, true, false, cond, ltb, refl, ap, ◌∙◌, subst, List, [], ◌∷◌, ◌++◌, length, take, filter, Option, Some, None, slice_get}
+use Rattle.std.proofs.Common.{◌≡◌, ℕ, ◌+◌, ◌≤◌, Bool, true, false, cond, ltb, refl, ap, ◌∙◌, subst, sym, List, [], ◌∷◌, ◌++◌, length, take, filter, Option, Some, None, slice_get}
 use Rattle.std.specs.Prelude.{option_map, MatchOption}
 use Rattle.std.specs.Option.{option_or}
 use Rattle.std.proofs.lemmas.List.{append-nil, take_all}
@@ -9,7 +9,8 @@ use Rattle.ptp_base.specs.Least.{first_least, lesser}
 use Rattle.bc_history.specs.Run.World.{Candidate, is_busy}
 use Rattle.hub_core.specs.HubView.{HubState}
 use Rattle.bc_steps.specs.ActorView.{ActorState, due_tick}
-use Rattle.bc_replay.specs.ActorTurns.{IsTurnOf, candidate_by, due_actor, due_actors, turn_among}
+use Rattle.bc_history.specs.declared.scenario.Turner.TheVariants.{Default}
+use Rattle.bc_replay.specs.ActorTurns.{HasNoTurn, IsTurnOf, candidate_by, due_actor, due_actors}
 use Rattle.bc_replay.proofs.lemmas.ActorListLemmas.{take-more}
 
 -- the first of the least candidates
@@ -106,24 +107,18 @@ busy-passed hub actors i t a there due idle =
 -- the turn by the best of those in the middle of their job and the best of all
 abbrev TurnRepresents : HubState → List ActorState → Option (ℕ × ℕ) → Type 0
 TurnRepresents hub actors best =
-    MatchOption (option_map (λ (at : ℕ × ℕ). at.0) best) (turn_among (due_actors hub actors) ≡ None) (IsTurnOf hub actors)
+    MatchOption (option_map (λ (at : ℕ × ℕ). at.0) best) (HasNoTurn hub actors Default) (IsTurnOf hub actors Default)
 
 turn-by : (hub : HubState) (actors : List ActorState) (busy first : Option (ℕ × ℕ)) → BestRepresents hub actors (busy_of (due_actors hub actors)) busy
     → BestRepresents hub actors (due_actors hub actors) first → TurnRepresents hub actors (option_or busy first)
 turn-by hub actors (Some b) first busy_is first_is = record {
-  actor = busy_is.actor;
-  there = busy_is.there;
+  at = record { actor = busy_is.actor; there = busy_is.there; tick = b.1; due = busy_is.due };
   named = rw busy_is.first refl;
-  tick = b.1;
-  due = busy_is.due;
 }
 turn-by hub actors None None none_busy none = rw (none_busy, none) refl
 turn-by hub actors None (Some b) none_busy first_is = record {
-  actor = first_is.actor;
-  there = first_is.there;
+  at = record { actor = first_is.actor; there = first_is.there; tick = b.1; due = first_is.due };
   named = rw (none_busy, first_is.first) refl;
-  tick = b.1;
-  due = first_is.due;
 }
 
 -- where all actors were looked at
@@ -134,3 +129,9 @@ turn-found hub actors n busy first all busy_is first_is =
     turn-by hub actors busy first
     (subst (λ (seen : List ActorState). BestRepresents hub actors (busy_of (due_actors hub seen)) busy) whole busy_is)
     (subst (λ (seen : List ActorState). BestRepresents hub actors (due_actors hub seen) first) whole first_is)
+
+-- and one was found
+pub turn-some : (hub : HubState) (actors : List ActorState) (n i t : ℕ) (busy first best : Option (ℕ × ℕ)) → length actors ≤ n → BestRepresents hub actors (busy_of (due_actors hub (take n actors))) busy
+    → BestRepresents hub actors (due_actors hub (take n actors)) first → best ≡ option_or busy first → best ≡ Some (i, t) → IsTurnOf hub actors Default i
+turn-some hub actors n i t busy first best all busy_is first_is best_is some =
+    subst (λ (o : Option (ℕ × ℕ)). TurnRepresents hub actors o) (sym best_is ∙ some) (turn-found hub actors n busy first all busy_is first_is)

@@ -1,4 +1,3 @@
 -- What holds only of scenarios that are supported so far. It goes when every scenario is served.
 pub mod SupportedScenarioLemmas
-pub mod PortsOnlyLemmas
-pub mod QuietTurnLemmas
+pub mod UnaskedTurnLemmas

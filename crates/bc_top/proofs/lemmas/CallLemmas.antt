@@ -4,9 +4,8 @@ use Rattle.std.proofs.lemmas.Bool.{cases_lt}
 use Rattle.text_io.specs.declared.reason.Reason.{Reason}
 use Rattle.text_io.specs.TextLines.{lines_of_text}
 use Rattle.bc_history.specs.declared.scenario.Scenario.{Scenario}
-use Rattle.bc_history.specs.declared.entry.Run.{Run}
 use Rattle.bc_history.specs.Scenario.LineFaults.{Stands, IsFirstFault, fault_at}
-use Rattle.bc_history.specs.Run.World.{IsWorld, IsEnd, Finished, Events}
+use Rattle.bc_history.specs.Run.World.{End, IsEnd}
 use Rattle.bc_history.proofs.lemmas.EndLemmas.{one_end}
 use Rattle.bc_replay.specs.Stage.SupportedScenarios.{IsSupported, IsUnsupported}
 use Rattle.bc_replay.proofs.lemmas.stage.SupportedScenarioLemmas.{never_both}
@@ -46,8 +45,6 @@ one_reason text line other reason further a b =
 pub supported_apart : (text : List ℕ) (s t : Scenario) → Stands text s → Stands text t → IsSupported s → IsUnsupported t → ⊥
 supported_apart text s t a b supported unsupported = never_both t (subst IsSupported (one_scenario text s t a b) supported) unsupported
 
--- a scenario that has a run doesn't end at one event too many
-pub ends_apart : (text : List ℕ) (s t : Scenario) (run : Run) → Stands text s → Stands text t → IsWorld s run → IsEnd t Events → ⊥
-ends_apart text s t run a b world events =
-    let same : Finished run ≡ Events = one_end t (Finished run) Events (subst (λ u. IsWorld u run) (one_scenario text s t a b) world) events in
-    cc
+-- a text has one end
+pub one_end-of : (text : List ℕ) (s t : Scenario) (end other : End) → Stands text s → Stands text t → IsEnd s end → IsEnd t other → end ≡ other
+one_end-of text s t end other a b first second = one_end t end other (subst (λ u. IsEnd u end) (one_scenario text s t a b) first) second

@@ -5,13 +5,17 @@ use Rattle.std.specs.Io.KnownBytes.{Consumes, IsAtEnd}
 use Rattle.text_io.specs.declared.reason.Reason.{Reason}
 use Rattle.text_io.specs.declared.reason.Reason.TheVariants.{Unbuilt}
 use Rattle.ptp_base.specs.declared.limits.TheConstants.{TEXT_MAX}
+use Rattle.bc_history.specs.declared.scenario.Scenario.{Scenario}
+use Rattle.bc_history.specs.declared.entry.Run.{Run}
+use Rattle.bc_history.specs.Scenario.LineFaults.{Stands}
+use Rattle.bc_history.specs.Run.World.{IsEnd, IsWorld, Finished, Not_due, Events as Too_many}
 use Rattle.bc_top.specs.ReadToEnd.{Reads, AreRead, IsReadWhole}
-use Rattle.bc_top.specs.Call.{Call, IsTranscriptOf, IsRefusal, IsOverfull}
+use Rattle.bc_top.specs.Call.{Call, IsTranscriptOf, IsRefusal, IsOutOfTurn, IsOverfull}
 use Rattle.bc_top.specs.EndCauses.{IsCaused}
 use Rattle.bc_top.specs.EndCompleteness.{IsEndAt, IsComplete}
 use Rattle.bc_top.specs.declared.outcome.End.{End}
-use Rattle.bc_top.specs.declared.outcome.End.TheVariants.{Done, Usage, Refused, ReadFault, WriteFault, Events, NoMemory, TooLong}
-use Rattle.bc_top.proofs.lemmas.CallLemmas.{stands-faultless, one_line, one_reason, supported_apart, ends_apart}
+use Rattle.bc_top.specs.declared.outcome.End.TheVariants.{Done, Usage, Refused, ReadFault, WriteFault, Events, NoMemory, NotDue, TooLong}
+use Rattle.bc_top.proofs.lemmas.CallLemmas.{stands-faultless, one_line, one_end-of, one_reason, supported_apart}
 
 all_was_read : (after : Option (List ℕ)) (text octets : List ℕ) → Consumes (Some text) after octets → IsAtEnd after → octets ≡ text
 all_was_read None text octets given end = absurd given
@@ -29,10 +33,29 @@ octets_within r text octets told read = within_text r.left_after text octets (rw
 
 -- ---- the end at a text that was read whole
 
+-- a text whose scenario has a run has no other end
+run_not_full : (text : List ℕ) (s t : Scenario) (run : Run) → Stands text s → Stands text t → IsWorld s run → IsEnd t Too_many → ⊥
+run_not_full text s t run a b world events = let same : Finished run ≡ Too_many = one_end-of text s t (Finished run) Too_many a b world events in cc
+
+run_not_stopped : (text : List ℕ) (s t : Scenario) (run : Run) (turn : ℕ) → Stands text s → Stands text t → IsWorld s run → IsEnd t (Not_due turn) → ⊥
+run_not_stopped text s t run turn a b world undue = let same : Finished run ≡ Not_due turn = one_end-of text s t (Finished run) (Not_due turn) a b world undue in cc
+
+-- and one that ends at one event too many does not end at a turn
+full_not_stopped : (text : List ℕ) (s t : Scenario) (turn : ℕ) → Stands text s → Stands text t → IsEnd s Too_many → IsEnd t (Not_due turn) → ⊥
+full_not_stopped text s t turn a b events undue = let same : Too_many ≡ Not_due turn = one_end-of text s t Too_many (Not_due turn) a b events undue in cc
+
+-- turns without a step are one
+one_turn : (text : List ℕ) (s t : Scenario) (turn other : ℕ) → Stands text s → Stands text t → IsEnd s (Not_due turn) → IsEnd t (Not_due other) → NotDue turn ≡ NotDue other
+one_turn text s t turn other a b first second =
+    let same : Not_due turn ≡ Not_due other = one_end-of text s t (Not_due turn) (Not_due other) a b first second in
+    let turns : turn ≡ other = cc in
+    ap (λ n. NotDue n) turns
+
 done-at : (text out : List ℕ) → length text ≤ TEXT_MAX → IsTranscriptOf text out → IsEndAt text Done
 done-at text out short made = record {
   done = λ few s run stands supported world. inl refl;
-  events = λ few s stands supported events. absurd (ends_apart text made.scenario s made.run made.stands stands made.world events);
+  events = λ few s stands supported events. absurd (run_not_full text made.scenario s made.run made.stands stands made.world events);
+  not_due = λ few s turn stands supported undue. absurd (run_not_stopped text made.scenario s made.run turn made.stands stands made.world undue);
   unsupported = λ few s stands unsupported. absurd (supported_apart text made.scenario s made.stands stands made.supported unsupported);
   refused = λ few line reason fault. absurd (stands-faultless text made.scenario line reason made.stands fault);
   too_long = λ long. absurd (omega (arith, long, short));
@@ -45,6 +68,7 @@ refused-at : (text : List ℕ) (line : ℕ) (reason : Reason) → length text �
 refused-at text line reason short (inl fault) = record {
   done = λ few s run stands supported world. absurd (stands-faultless text s line reason stands fault);
   events = λ few s stands supported events. absurd (stands-faultless text s line reason stands fault);
+  not_due = λ few s turn stands supported undue. absurd (stands-faultless text s line reason stands fault);
   unsupported = λ few s stands unsupported. absurd (stands-faultless text s line reason stands fault);
   refused = λ few other further first. inl (same_refusal line other reason further (one_line text line other reason further fault first) (one_reason text line other reason further fault first));
   too_long = λ long. absurd (omega (arith, long, short));
@@ -52,6 +76,7 @@ refused-at text line reason short (inl fault) = record {
 refused-at text line reason short (inr of) = record {
   done = λ few s run stands supported world. absurd (supported_apart text s of.scenario stands of.stands supported of.unsupported);
   events = λ few s stands supported events. absurd (supported_apart text s of.scenario stands of.stands supported of.unsupported);
+  not_due = λ few s turn stands supported undue. absurd (supported_apart text s of.scenario stands of.stands supported of.unsupported);
   unsupported = λ few s stands unsupported. inl (same_refusal line 0 reason Unbuilt of.whole of.cause);
   refused = λ few other further first. absurd (stands-faultless text of.scenario other further of.stands first);
   too_long = λ long. absurd (omega (arith, long, short));
@@ -59,10 +84,21 @@ refused-at text line reason short (inr of) = record {
 
 events-at : (text : List ℕ) → length text ≤ TEXT_MAX → IsOverfull text → IsEndAt text Events
 events-at text short over = record {
-  done = λ few s run stands supported world. absurd (ends_apart text s over.scenario run stands over.stands world over.events);
+  done = λ few s run stands supported world. absurd (run_not_full text s over.scenario run stands over.stands world over.events);
   events = λ few s stands supported events. inl refl;
+  not_due = λ few s turn stands supported undue. absurd (full_not_stopped text over.scenario s turn over.stands stands over.events undue);
   unsupported = λ few s stands unsupported. absurd (supported_apart text over.scenario s over.stands stands over.supported unsupported);
   refused = λ few line reason fault. absurd (stands-faultless text over.scenario line reason over.stands fault);
+  too_long = λ long. absurd (omega (arith, long, short));
+}
+
+not_due-at : (text : List ℕ) (turn : ℕ) → length text ≤ TEXT_MAX → IsOutOfTurn text turn → IsEndAt text (NotDue turn)
+not_due-at text turn short of = record {
+  done = λ few s run stands supported world. absurd (run_not_stopped text s of.scenario run turn stands of.stands world of.undue);
+  events = λ few s stands supported events. absurd (full_not_stopped text s of.scenario turn stands of.stands events of.undue);
+  not_due = λ few s other stands supported undue. inl (one_turn text of.scenario s turn other of.stands stands of.undue undue);
+  unsupported = λ few s stands unsupported. absurd (supported_apart text of.scenario s of.stands stands of.supported unsupported);
+  refused = λ few line reason fault. absurd (stands-faultless text of.scenario line reason of.stands fault);
   too_long = λ long. absurd (omega (arith, long, short));
 }
 
@@ -70,6 +106,7 @@ memory-at : (text : List ℕ) → IsEndAt text NoMemory
 memory-at text = record {
   done = λ few s run stands supported world. inr refl;
   events = λ few s stands supported events. inr refl;
+  not_due = λ few s turn stands supported undue. inr refl;
   unsupported = λ few s stands unsupported. inr refl;
   refused = λ few line reason fault. inr refl;
   too_long = λ long. inr refl;
@@ -79,6 +116,7 @@ too_long-at : (text : List ℕ) → (length text ≤ TEXT_MAX → ⊥) → IsEnd
 too_long-at text long = record {
   done = λ few s run stands supported world. absurd (long few);
   events = λ few s stands supported events. absurd (long few);
+  not_due = λ few s turn stands supported undue. absurd (long few);
   unsupported = λ few s stands unsupported. absurd (long few);
   refused = λ few line reason fault. absurd (long few);
   too_long = λ far. inl refl;
@@ -95,6 +133,7 @@ complete c (Refused line reason) cause = λ words no_read no_write text told. at
 complete c ReadFault cause = λ words no_read no_write text told. absurd (no_read cause.failed.counted.0)
 complete c WriteFault cause = λ words no_read no_write text told. absurd (no_write cause.failed.counted.0)
 complete c Events cause = λ words no_read no_write text told. at_text c.reads text cause.text Events told cause.read (events-at cause.text cause.read.short cause.overfull)
+complete c (NotDue turn) cause = λ words no_read no_write text told. at_text c.reads text cause.text (NotDue turn) told cause.read (not_due-at cause.text turn cause.read.short cause.out_of_turn)
 complete c NoMemory cause = λ words no_read no_write text told. memory-at text
 complete c TooLong cause = λ words no_read no_write text told.
     let within = octets_within c.reads text cause.far.octets told cause.far.read in

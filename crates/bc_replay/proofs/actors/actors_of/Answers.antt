@@ -1,9 +1,23 @@
-use Rattle.std.proofs.Common.{arith}
-use Rattle.bc_replay.proofs.lemmas.ActorPlaceLemmas.{actors-more, port-acts}
+use Rattle.std.proofs.Common.{◌≡◌, ℕ, ◌+◌, [], length, map, arith}
+use Rattle.std.specs.List.{range_with_len}
+use Rattle.bc_history.specs.declared.entry.Who.TheVariants.{Port, Follower}
+use Rattle.bc_replay.specs.ActorLoop.{actor_at_opening}
+use Rattle.bc_replay.proofs.lemmas.ActorPlaceLemmas.{follower-acts, made-more, port-acts}
 use Rattle.bc_replay.proofs.actors.actors_of.Goals as goal
 
 pub new-requires-clause-there : goal.new-requires-clause-there
 new-requires-clause-there c = port-acts c.args.s.now c.loop-i.i (omega arith)
 
+pub new-requires-in-loop-c-clause-there : goal.new-requires-in-loop-c-clause-there
+new-requires-in-loop-c-clause-there c = follower-acts c.args.s.now c.loop-c.c (omega arith)
+
 pub loop-i-preserved : goal.loop-i-preserved
-loop-i-preserved c = actors-more c.args.s.now c.loop-i.i c.loop-i.actors.items c.push.new.self.items _ c.loop-i.invariant c.in_ok-push.ensures.items c.in_ok-new.ensures
+loop-i-preserved c =
+    let next : 1 + c.loop-i.i ≡ c.loop-i.i + 1 = omega arith in
+    made-more c.args.s.now (λ p. Port p) 1 c.loop-i.i (c.loop-i.i + 1) [] c.loop-i.actors.items c.push.new.self.items _ c.loop-i.invariant c.in_ok-push.ensures.items c.in_ok-new.ensures next
+
+pub loop-c-preserved : goal.loop-c-preserved
+loop-c-preserved c =
+    let next : 0 + c.loop-c.c ≡ c.loop-c.c = omega arith in
+    let ports = map (actor_at_opening c.args.s.now) (map (λ p. Port p) (range_with_len 1 (length c.args.s.now.ports))) in
+    made-more c.args.s.now (λ d. Follower d) 0 c.loop-c.c c.loop-c.c ports c.loop-c.actors.items c.push-in-loop-c.new.self.items _ c.loop-c.invariant c.in_ok-push-2.ensures.items c.in_ok-new-2.ensures next

@@ -20,6 +20,7 @@ returns-clause-step c =
       entry = c.event.ensures.entry;
       level = c.event.ensures.level;
       actor = c.event.ensures.actor;
-      kind = c.kind.ensures;
+      kind = c.kind.ensures.place;
+      job = c.kind.ensures.job;
     })
     c.in_ok-event.was

@@ -1,7 +1,7 @@
 use Rattle.std.proofs.Common.{◌≡◌, length, slice_get, Some, None, ap, refl, sym, ◌∙◌, arith}
 use Rattle.std.proofs.lemmas.Option.{slice_get_read}
 use Rattle.bc_steps.specs.ActorView.{ActorState, due_tick}
-use Rattle.bc_replay.proofs.lemmas.ActorTurnLemmas.{best-more, best-same, busy-passed, busy-taken, due-none, due-some, busy_of}
+use Rattle.bc_replay.proofs.lemmas.ActorTurnLemmas.{best-more, best-same, busy-passed, busy-taken, due-none, due-some, turn-some, busy_of}
 use Rattle.bc_replay.proofs.turn.default_turn.Goals.{in-Some+then-is_busy, in-Some+else-is_busy, in_default}
 use Rattle.bc_replay.proofs.turn.default_turn.Goals as goal
 
@@ -38,3 +38,8 @@ actors-preserved c =
             first = best-same hub all _ _ c.actors.first c.match-due.first same w.first-is c.actors.invariant.first;
           }
     ]
+
+pub returns-in-Some-or : goal.returns-in-Some-or
+returns-in-Some-or c =
+    turn-some c.args.hub.now c.args.actors.now c.actors.i c.in-Some-or.i c.in-Some-or.field-0-1 c.actors.busy c.actors.first c.or.result
+    (omega (arith, c.actors-test.false)) c.actors.invariant.busy c.actors.invariant.first c.or.ensures c.in-Some-or.is

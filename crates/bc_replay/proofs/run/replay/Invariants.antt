@@ -1,8 +1,0 @@
-use Rattle.bc_replay.specs.ActorLoop.{LoopRepresents, free_steps_of, steps_left}
-use Rattle.bc_replay.proofs.run.replay.Given as goal
-
-abbrev pub invariant-turns : goal.invariant-turns
-invariant-turns l = LoopRepresents l.s l.hub l.actors.items
-
-abbrev pub decreases-turns : goal.decreases-turns
-decreases-turns l = steps_left l.hub (free_steps_of l.actors.items)
