@@ -13,6 +13,7 @@ pub mod ScenarioTextLemmas
 pub mod OptionTableLemmas
 pub mod OptionRuleLemmas
 pub mod ListRuleLemmas
+pub mod QueryTextLemmas
 pub mod LineRuleLemmas
 pub mod ScenarioRuleLemmas
 pub mod EntryPhaseLemmas
@@ -24,3 +25,6 @@ pub mod FollowerPhaseLemmas
 pub mod FollowerEntriesLemmas
 pub mod LeadLemmas
 pub mod FollowerLemmas
+pub mod MoveLemmas
+pub mod ShownAnswerLemmas
+pub mod FormedEntryLemmas

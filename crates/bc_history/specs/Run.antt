@@ -10,3 +10,4 @@ pub mod FollowerEntries
 pub mod World
 pub mod RunExamples
 pub mod Transcript
+pub mod FormedRuns

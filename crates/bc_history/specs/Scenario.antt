@@ -6,4 +6,5 @@ pub mod SectionLines
 pub mod LineFaults
 pub mod TextExamples
 pub mod Scenario
+pub mod QueryTexts
 pub mod ScenarioRules

@@ -4,6 +4,7 @@
 mod entry;
 mod examples;
 mod follower_laws;
+mod formed_laws;
 mod laws;
 mod option;
 mod option_laws;
@@ -28,6 +29,7 @@ pub use follower_laws::{
     follower_places_are_by_leads, followers_are_told_by_their_own_entries,
     followers_keep_their_entries, followers_stay, leads_are_ordered,
 };
+pub use formed_laws::{entries_are_formed, openings_are_formed};
 pub use laws::{
     at_most_one_follows, controllers_are_always_a_forest, edges_are_those_of_the_ports,
     entries_tell_by_their_kind, exchanges_agree, has_one_end, moments_never_fall,

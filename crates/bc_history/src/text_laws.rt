@@ -1,6 +1,6 @@
 ghost use Rattle.std.specs.Prelude.{◌≡◌, ◌⊎◌, ℕ, List, [], ◌∷◌, Some, None, codes};
 ghost use Rattle.text_io.specs.declared.reason.Reason.{Reason};
-ghost use Rattle.text_io.specs.declared.reason.Reason.TheVariants.{Section, Order, UnknownOption, Repeated, Value, Limit, Jbod, Unbuilt};
+ghost use Rattle.text_io.specs.declared.reason.Reason.TheVariants.{Section, Order, UnknownOption, Repeated, Value, Limit, Jbod};
 ghost use Rattle.bc_history.specs.declared.scenario.Scenario.{Scenario};
 ghost use Rattle.bc_history.specs.Scenario.LineFaults.{Stands, IsFirstFault};
 ghost use Rattle.bc_history.specs.Scenario.TextExamples.{faults, said_by, one_port, two_clocks};
@@ -19,13 +19,12 @@ pub fn one_scenario_stands()
     ensures { (text : List ℕ) (s t : Scenario) → Stands text s → Stands text t → s ≡ t }
 {}
 
-/// A text has one first fault at most, and that it is not built is none.
+/// A text has one first fault at most.
 pub fn one_fault_is_first()
     ensures line { (text : List ℕ) (line other : ℕ) (reason further : Reason) →
         IsFirstFault text line reason → IsFirstFault text other further → line ≡ other }
     ensures reason { (text : List ℕ) (line other : ℕ) (reason further : Reason) →
         IsFirstFault text line reason → IsFirstFault text other further → reason ≡ further }
-    ensures built { (text : List ℕ) (line : ℕ) → ¬ (IsFirstFault text line Unbuilt) }
 {}
 
 /// Texts that are judged line by line: what is wrong with each, and what they say.

@@ -29,3 +29,4 @@ pub mod NamedActorLemmas
 pub mod NamedRunLemmas
 pub mod NamedEndLemmas
 pub mod StepLemmas
+pub mod FormedRunLemmas

@@ -4,6 +4,7 @@
 mod assembly;
 mod event_laws;
 mod examples;
+mod formed_laws;
 mod laws;
 mod named_laws;
 mod world_laws;
@@ -14,6 +15,7 @@ pub use event_laws::{events_stay_right, right_entries_keep_courses};
 pub use examples::{
     each_item_is_judged, follows_legally, nothing_is_left_out, steers_legally, windows_are_judged,
 };
+pub use formed_laws::open_runs_are_formed;
 pub use laws::{
     changes_keep_courses, logs_grow, newer_orders_keep_numbers, numbers_are_within_logs,
     numbers_of_an_actor_rise, open_by_steps, ordered_stamps_are_holders, orders_are_newer,

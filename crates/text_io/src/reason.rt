@@ -24,7 +24,4 @@ pub enum Reason {
     /// Ports are on two clocks, and `boundary_clock_jbod` does not allow that.
     #[error("jbod")]
     Jbod,
-    /// The text asks for what is not built yet.
-    #[error("unbuilt")]
-    Unbuilt,
 }

@@ -85,7 +85,6 @@ fn reasons_are_words(rt: HostRuntime) -> Result<(), Fail> {
         (Reason::Value, "value"),
         (Reason::Limit, "limit"),
         (Reason::Jbod, "jbod"),
-        (Reason::Unbuilt, "unbuilt"),
     ] {
         let printed = format!(in rt.alloc(); "{reason}")?;
         assert_eq!(rt; printed.as_str(), word);

@@ -9,10 +9,10 @@ use Rattle.bc_history.specs.declared.scenario.Options.{Options}
 use Rattle.bc_history.specs.declared.scenario.Scenario.{Scenario}
 use Rattle.ptp_profile.specs.declared.roles.Notice.{Notice}
 use Rattle.bc_history.specs.Phases.Inputs.{changed_at, event_of, holds}
-use Rattle.bc_history.specs.Phases.NoticePhase.{after_notices, after_posting, after_posting_from, after_subscription, after_taking, after_turn, notice_for, with_notice}
+use Rattle.bc_history.specs.Phases.NoticePhase.{after_notices, after_posting_from, after_turn, notice_for, with_notice}
 use Rattle.bc_history.specs.Phases.OpeningState.{follower_count, open_follower}
-use Rattle.bc_history.specs.Phases.State.{Core, Event, Follower, Roles, State, Subscription}
-use Rattle.bc_history.specs.Phases.Step.{core_after, followers_after, followers_between, roles_after, state_of, step}
+use Rattle.bc_history.specs.Phases.State.{Core, Follower, Roles, Subscription}
+use Rattle.bc_history.specs.Phases.Step.{core_after, followers_between, roles_after, state_of, step}
 use Rattle.bc_history.proofs.lemmas.CoreInvariantLemmas.{length-changed_at}
 
 -- at most so many notices were put for each follower since its last turn

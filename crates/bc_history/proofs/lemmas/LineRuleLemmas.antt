@@ -4,7 +4,7 @@ use Rattle.std.specs.Prelude.{nat_lt, nat_le, ◌==◌, codes, option_map, optio
 use Rattle.std.specs.List.{All, AllPairs, join_with_byte}
 use Rattle.std.specs.Option.{IfSome}
 use Rattle.std.proofs.lemmas.Bool.{and_parts, or_parts, not-false, ltb-false, ltb-true, leb-true, eqb-true, eqb-false}
-use Rattle.std.proofs.lemmas.List.Elements.{All-push, All-weaker}
+use Rattle.std.proofs.lemmas.List.Elements.{All-head, All-tail, All-push, All-weaker}
 use Rattle.std.proofs.lemmas.List.Quantifiers.{all_pairs_push}
 use Rattle.std.proofs.lemmas.List.Sums.{fold-append}
 use Rattle.hex.specs.Hex.{decode_of}
@@ -26,7 +26,9 @@ use Rattle.ptp_base.specs.declared.limits.TheConstants.{FRAME_MAX, QUERY_MAX}
 use Rattle.bc_history.specs.Scenario.LineFaults.{is_lost, is_great_record, is_great_query}
 use Rattle.bc_history.specs.Scenario.OptionTable.{IsFrom}
 use Rattle.bc_history.specs.Scenario.ScenarioRules.{IsHappening, IsRecordOf, IsRecordBefore, IsQuery, IsQueryBefore, IsTurnerOf, AreTurnsOf}
+use Rattle.bc_history.specs.Scenario.QueryTexts.{IsWord}
 use Rattle.bc_history.proofs.lemmas.ListRuleLemmas.{last_of_push}
+use Rattle.bc_history.proofs.lemmas.QueryTextLemmas.{joined_words}
 
 -- ---- records
 
@@ -140,19 +142,19 @@ join_filled : (word : List ℕ) (words : List (List ℕ)) → 1 ≤ length word 
 join_filled word [] some = some
 join_filled word (next ∷ words) some = omega (arith, some, length-append word (32 ∷ join_with_byte 32 (next ∷ words)))
 
-found_query : (queries : List Asked) (tick word : List ℕ) (words : List (List ℕ)) (t : Option ℕ) → number_of tick ≡ t → 1 ≤ length word → is_early_query queries (tick ∷ word ∷ words) ≡ false
+found_query : (queries : List Asked) (tick word : List ℕ) (words : List (List ℕ)) (t : Option ℕ) → number_of tick ≡ t → All IsWord (word ∷ words) → is_early_query queries (tick ∷ word ∷ words) ≡ false
     → is_great_query (option_map (λ n. record { tick = n; text = join_with_byte 32 (word ∷ words) }) t) ≡ false
     → IfSome (option_map (λ n. record { tick = n; text = join_with_byte 32 (word ∷ words) }) t) (IsNextQuery queries)
-found_query queries tick word words None e some early great = tt
-found_query queries tick word words (Some t) e some early great =
+found_query queries tick word words None e each early great = tt
+found_query queries tick word words (Some t) e each early great =
     let late : nat_lt t (former_query queries) ≡ false = rw e at early in
     let few : (nat_lt TICK_MAX t ≡ false) × (nat_lt QUERY_MAX (length (join_with_byte 32 (word ∷ words))) ≡ false) = or_parts (nat_lt TICK_MAX t) (nat_lt QUERY_MAX (length (join_with_byte 32 (word ∷ words)))) great in
-    (record { tick = ltb-false TICK_MAX t few.0; text = (join_filled word words some, ltb-false QUERY_MAX (length (join_with_byte 32 (word ∷ words))) few.1) }, ltb-false t (former_query queries) late)
+    (record { tick = ltb-false TICK_MAX t few.0; text = (join_filled word words (All-head IsWord word words each).length, ltb-false QUERY_MAX (length (join_with_byte 32 (word ∷ words))) few.1); words = joined_words word words each }, ltb-false t (former_query queries) late)
 
-pub next_query : (queries : List Asked) (words : List (List ℕ)) → All (λ (word : List ℕ). 1 ≤ length word) words → is_early_query queries words ≡ false → is_great_query (query_of words) ≡ false → IfSome (query_of words) (IsNextQuery queries)
-next_query queries [] some early great = tt
-next_query queries (a ∷ []) some early great = tt
-next_query queries (a ∷ b ∷ words) some early great = found_query queries a b words (number_of a) refl (some 1 [] (omega arith)) early great
+pub next_query : (queries : List Asked) (words : List (List ℕ)) → All IsWord words → is_early_query queries words ≡ false → is_great_query (query_of words) ≡ false → IfSome (query_of words) (IsNextQuery queries)
+next_query queries [] each early great = tt
+next_query queries (a ∷ []) each early great = tt
+next_query queries (a ∷ b ∷ words) each early great = found_query queries a b words (number_of a) refl (All-tail IsWord a (b ∷ words) each) early great
 
 former_query_push : (queries : List Asked) (q : Asked) → former_query (queries ++ q ∷ []) ≡ q.tick
 former_query_push queries q = rw (last_of_push queries q) refl

@@ -1,16 +1,16 @@
 -- What the lines of a faultless text say keeps the rules.
 use Rattle.std.proofs.Common.{◌≡◌, ℕ, ℤ, zero, suc, ◌+◌, ◌<◌, ◌≤◌, Bool, true, false, cond, not, ◌&&◌, ◌||◌, List, [], ◌∷◌, ◌++◌, length, get_or, take, Option, Some, None, refl, sym, ◌∙◌, ap, arith, inl, inr}
 use Rattle.std.specs.Prelude.{nat_lt, nat_eq, ◌==◌, slice_get, codes}
-use Rattle.std.specs.List.{All, starts_with, slice_split}
-use Rattle.std.specs.Option.{IfSome}
+use Rattle.std.specs.List.{All, starts_with}
+use Rattle.std.specs.Option.{IfSome, is_none}
 use Rattle.std.proofs.lemmas.Bool.{or_parts, or_cases, and_parts, not-false, ltb-true, eqb-true, eqb-false}
 use Rattle.std.proofs.lemmas.List.{take_more, take_all, length_push}
-use Rattle.std.proofs.lemmas.List.Elements.{All-push, All-weaker, filter_passes}
+use Rattle.std.proofs.lemmas.List.Elements.{All-push, All-weaker}
 use Rattle.std.proofs.lemmas.List.Quantifiers.{all_pairs_push}
 use Rattle.std.proofs.lemmas.List.Sums.{fold-append}
 use Rattle.std.proofs.lemmas.Option.{slice_get-get_or, slice_get_past}
 use Rattle.text_io.specs.declared.reason.Reason.{Reason}
-use Rattle.text_io.specs.TextLines.{lines_of_text, words_of, is_printable, is_filled, is_blank}
+use Rattle.text_io.specs.TextLines.{lines_of_text, words_of, is_printable}
 use Rattle.ptp_base.specs.declared.port_conf.PortConf.{PortConf}
 use Rattle.model_clock.specs.declared.state.ClockState.{ClockState}
 use Rattle.bc_history.specs.declared.section.Header.{Header}
@@ -30,9 +30,11 @@ use Rattle.model_clock.specs.Clock.{plain_clock}
 use Rattle.bc_history.specs.Scenario.Draft.{Draft, empty_draft, with_last, clocks_of, scenario_of}
 use Rattle.bc_history.specs.Scenario.SectionLines.{is_clock, record_of, is_early_record, query_of, is_early_query, turns_of}
 use Rattle.bc_history.specs.Scenario.LineFaults.{first_of, is_misplaced, is_on_another, breaks_jbod, sole_tests, header_tests, setting_of, option_of, is_lost, is_great_record, is_great_query, record_tests, query_tests, tests_of, header_role, inner_role, role_of, with_header, with_setting, with_set, with_option_line, and_one, with_role, with_line, draft_of, fault, end_fault, fault_behind, fault_at, Stands}
+use Rattle.bc_history.specs.Scenario.QueryTexts.{IsWord}
 use Rattle.bc_history.specs.Scenario.ScenarioRules.{AreOptions, IsOpeningClock, IsPortConf, AreTurnsOf, AreTogether, IsScenario}
 use Rattle.bc_history.proofs.lemmas.OptionRuleLemmas.{IsInRow, keeps_option, keeps_port, keeps_clock, port_stays, defaults_in_range, plain_port_rule, plain_clock_rule}
 use Rattle.bc_history.proofs.lemmas.ListRuleLemmas.{length-last, all-last, same-last, all-and_one}
+use Rattle.bc_history.proofs.lemmas.QueryTextLemmas.{printable_words}
 use Rattle.bc_history.proofs.lemmas.LineRuleLemmas.{AreRecords, IsNextRecord, next_record, more_records, more_ports, AreQueries, IsNextQuery, next_query, more_queries, AreTurns, next_turns, turns_still}
 
 -- where the section in force stands in the order of sections
@@ -307,11 +309,12 @@ record_line d good words e h =
       records = record_found d (record_of words) (next_record d.ports d.records words one.0 value.0 three) h;
     }
 
-query_line : (d : Draft) (good : Bool) (words : List (List ℕ)) → All (λ (word : List ℕ). 1 ≤ length word) words → first_of (query_tests d good words) ≡ None → IsDraft d → IsDraft (with_role d words (Says In_queries))
-query_line d good words filled e h =
+query_line : (d : Draft) (good : Bool) (words : List (List ℕ)) → (good ≡ true → All IsWord words) → first_of (query_tests d good words) ≡ None → IsDraft d → IsDraft (with_role d words (Says In_queries))
+query_line d good words spelled e h =
     let one = first_none (is_early_query d.queries words) _ _ e in
-    let two = first_none _ _ _ one.1 in
+    let two = first_none (is_none (query_of words) || not good) _ _ one.1 in
     let three : is_great_query (query_of words) ≡ false = last_none (is_great_query (query_of words)) _ two.1 in
+    let value : (is_none (query_of words) ≡ false) × (not good ≡ false) = or_parts (is_none (query_of words)) (not good) two.0 in
     record {
       options = h.options;
       defaults = h.defaults;
@@ -324,7 +327,7 @@ query_line d good words filled e h =
       none_ahead = h.none_ahead;
       records = h.records;
       turns = h.turns;
-      queries = query_found d (query_of words) (next_query d.queries words filled one.0 three) h;
+      queries = query_found d (query_of words) (next_query d.queries words (spelled (not-false good value.1)) one.0 three) h;
     }
 
 turn_line : (d : Draft) (words : List (List ℕ)) → IsDraft d → IsDraft (with_role d words (Says In_schedule))
@@ -345,15 +348,15 @@ turn_line d words h = record {
 
 -- ---- lines
 
-in_role : (d : Draft) (good : Bool) (words : List (List ℕ)) (role : Role) → ((section : Section) → role ≡ Says section → d.section ≡ Some section) → All (λ (word : List ℕ). 1 ≤ length word) words
+in_role : (d : Draft) (good : Bool) (words : List (List ℕ)) (role : Role) → ((section : Section) → role ≡ Says section → d.section ≡ Some section) → (good ≡ true → All IsWord words)
     → first_of (tests_of d good words role) ≡ None → IsDraft d → IsDraft (with_role d words role)
-in_role d good words Skipped in_force filled e h = h
-in_role d good words Astray in_force filled e h = h
-in_role d good words (Begins next) in_force filled e h = header d good next e h
-in_role d good words (Says (In_options scope)) in_force filled e h = option_line d scope words (option_of scope words) (in_force (In_options scope) refl) h
-in_role d good words (Says In_records) in_force filled e h = record_line d good words e h
-in_role d good words (Says In_queries) in_force filled e h = query_line d good words filled e h
-in_role d good words (Says In_schedule) in_force filled e h = turn_line d words h
+in_role d good words Skipped in_force spelled e h = h
+in_role d good words Astray in_force spelled e h = h
+in_role d good words (Begins next) in_force spelled e h = header d good next e h
+in_role d good words (Says (In_options scope)) in_force spelled e h = option_line d scope words (option_of scope words) (in_force (In_options scope) refl) h
+in_role d good words (Says In_records) in_force spelled e h = record_line d good words e h
+in_role d good words (Says In_queries) in_force spelled e h = query_line d good words spelled e h
+in_role d good words (Says In_schedule) in_force spelled e h = turn_line d words h
 
 said_in : (skipped bracket : Bool) (found : Option Header) (section : Option Section) (said : Section) → cond skipped Skipped (cond bracket (header_role found) (inner_role section)) ≡ Says said → section ≡ Some said
 said_in true bracket found section said e = cc
@@ -366,11 +369,8 @@ in_force : (section : Option Section) (words : List (List ℕ)) (said : Section)
 in_force section [] said e = cc
 in_force section (word ∷ words) said e = said_in (starts_with nat_eq word (codes "#")) (starts_with nat_eq word (codes "[")) (header_of (word ∷ words)) section said e
 
-words_filled : (line : List ℕ) → All (λ (word : List ℕ). 1 ≤ length word) (words_of line)
-words_filled line = All-weaker (λ (word : List ℕ). is_filled word ≡ true) (λ (word : List ℕ). 1 ≤ length word) (λ word e. omega (arith, ltb-true 0 (length word) e)) (words_of line) (filter_passes is_filled (slice_split is_blank line))
-
 one_line : (d : Draft) (line : List ℕ) → fault d line ≡ None → IsDraft d → IsDraft (with_line d line)
-one_line d line e h = in_role d (is_printable line) (words_of line) (role_of d.section (words_of line)) (in_force d.section (words_of line)) (words_filled line) e h
+one_line d line e h = in_role d (is_printable line) (words_of line) (role_of d.section (words_of line)) (in_force d.section (words_of line)) (printable_words line) e h
 
 -- ---- texts
 

@@ -16,6 +16,7 @@ use Rattle.bc_history.specs.declared.scenario.Turner.{Turner}
 use Rattle.bc_history.specs.declared.scenario.Turner.TheVariants.{Default, Port, Clock, Queries}
 use Rattle.bc_history.specs.declared.scenario.Scenario.TheInside.{Inside}
 use Rattle.bc_history.specs.Scenario.Scenario.{Scenario}
+use Rattle.bc_history.specs.Scenario.QueryTexts.{IsQueryText}
 use Rattle.bc_history.specs.Scenario.OptionTable.{IsFrom, EachRow, OptionIsFrom, PortOptionIsFrom, ClockOptionIsFrom, option_table}
 
 -- the options are in the ranges of the table
@@ -48,10 +49,11 @@ pub record IsRecordOf (ports : ℕ) (r : Record) : Type 0 where
 abbrev pub IsRecordBefore : Record → Record → Type 0
 IsRecordBefore former later = former.port ≡ later.port → former.tick ≤ later.tick
 
--- a query's text has 1 to QUERY_MAX octets
+-- a query's text is words, with 1 to QUERY_MAX octets in all
 pub record IsQuery (q : Asked) : Type 0 where
   pub tick : q.tick ≤ TICK_MAX
   pub text : IsFrom 1 QUERY_MAX (length q.text)
+  pub words : IsQueryText q.text
 
 -- ticks of queries don't fall
 abbrev pub IsQueryBefore : Asked → Asked → Type 0

@@ -1,15 +1,16 @@
 -- With one right entry more, and its orders in the logs, entries and logs go on belonging together.
-use Rattle.std.proofs.Common.{◌≡◌, ◌<◌, arith, List, ◌∷◌, length}
-use Rattle.std.specs.Prelude.{is_some}
+use Rattle.std.proofs.Common.{◌<◌, arith, List, ◌∷◌, length}
 use Rattle.std.proofs.lemmas.List.Elements.{All-cons, All-weaker}
 use Rattle.ptp_base.specs.declared.limits.TheConstants.{ENTRIES_MAX}
 use Rattle.ptp_profile.specs.declared.seats.LogEntry.{LogEntry}
 use Rattle.ptp_profile.specs.Roles.SeatLogs.{with_orders}
 use Rattle.bc_history.specs.declared.entry.Entry.{Entry}
 use Rattle.bc_history.specs.declared.scenario.Scenario.{Scenario}
-use Rattle.bc_history.specs.Phases.Inputs.{event_of, is_read}
+use Rattle.bc_history.specs.Phases.Inputs.{event_of}
 use Rattle.bc_history.specs.Phases.Step.{state_of}
+use Rattle.bc_history.specs.Run.FormedRuns.{IsFormedEntry}
 use Rattle.bc_history.specs.Scenario.ScenarioRules.{IsScenario}
+use Rattle.bc_history.proofs.lemmas.FormedEntryLemmas.{formed_entry}
 use Rattle.run_legal.specs.Runs.Courses.{IsAgreed, IsCourse, IsReadRight}
 use Rattle.run_legal.specs.Runs.RightEntries.{IsRightEntry}
 use Rattle.run_legal.proofs.lemmas.EnteredLogLemmas.{abreast-ordered, agreed-ordered, numbered-ordered, read-ordered}
@@ -29,7 +30,7 @@ course-entered s is entries logs e course room right =
     record {
       formed = record {
         few = omega (arith, room);
-        read = All-cons (λ (e : Entry). is_some e.seen ≡ is_read e.input) e entries right.follows.read course.formed.read;
+        each = All-cons IsFormedEntry e entries (formed_entry s entries e is right.follows) course.formed.each;
       };
       history = (right.follows, course.history);
       lawful = logs-entered s entries e logs right.follows course.lawful;

@@ -1,6 +1,6 @@
 -- Runs with a follower that samples: one that is open, and the World's, which is legal.
 use Rattle.std.proofs.Common.{◌≡◌, ◌<◌, ◌≤◌, ℕ, zero, suc, refl, sym, subst, List, [], ◌∷◌, length, reverse, leb, arith, rules, pos}
-use Rattle.std.specs.Prelude.{All, AllPairs, is_some}
+use Rattle.std.specs.Prelude.{All, AllPairs}
 use Rattle.std.proofs.lemmas.Bool.{false≢true, leb-true}
 use Rattle.std.proofs.lemmas.Option.{same_Some}
 use Rattle.std.proofs.lemmas.List.Elements.{All-from_recursion, All-nil, All-cons}
@@ -11,7 +11,7 @@ use Rattle.ptp_profile.specs.Wire.MessageFormat.{number_at, message_octets}
 use Rattle.model_clock.specs.Clock.{clock_at, reading}
 use Rattle.ptp_profile.specs.Roles.SeatLogs.{AreLawful, IsLawful, clock_after, log_after}
 use Rattle.bc_history.specs.declared.entry.Entry.{Entry}
-use Rattle.bc_history.specs.Phases.Inputs.{is_read, event_of}
+use Rattle.bc_history.specs.Phases.Inputs.{event_of}
 use Rattle.bc_history.specs.Phases.PortPhase.{after_port}
 use Rattle.bc_history.specs.Phases.DecisionPhase.{with_codes, after_hearing}
 use Rattle.bc_history.specs.Phases.RolePhase.{after_roles}
@@ -26,9 +26,10 @@ use Rattle.bc_history.proofs.lemmas.OptionRuleLemmas.{plain_port_rule, plain_clo
 use Rattle.run_legal.specs.Numbers.Marks.{Sight}
 use Rattle.ptp_profile.specs.Roles.SeatLogs.{log_at}
 use Rattle.run_legal.specs.Numbers.Knowledge.{IsNumbered}
-use Rattle.run_legal.specs.Runs.Courses.{IsFormed, AreLogs, AreOutcomes, IsReadRight, IsAgreed, IsSeen, IsSteered, EachAfter}
+use Rattle.run_legal.specs.Runs.Courses.{AreLogs, AreOutcomes, IsReadRight, IsAgreed, IsSeen, IsSteered, EachAfter}
 use Rattle.run_legal.specs.Runs.LegalRuns.{IsOpen, IsLegal}
 use Rattle.run_legal.specs.Runs.LegalExamples.{follows, followed, followed_to_the_end}
+use Rattle.run_legal.proofs.lemmas.FormedRunLemmas.{formed-continues}
 use Rattle.run_legal.proofs.lemmas.LegalTestLemmas.{other, IsNumbered-test, AllPairs-passes}
 use Rattle.run_legal.proofs.lemmas.NamedEndLemmas.{run-legal}
 use Rattle.run_legal.proofs.lemmas.StepLemmas.{stays-right}
@@ -39,10 +40,26 @@ entries = reverse followed.entries
 abbrev logs : List (List LogEntry)
 logs = (Change 1 1 5500000000 (pos 0) (pos 0) ∷ Order 1 1 ∷ []) ∷ (Order 2 128 ∷ []) ∷ []
 
-formed : IsFormed entries
-formed = record {
-  few = omega arith;
-  read = All-from_recursion (λ (e : Entry). is_some e.seen ≡ is_read e.input) entries (refl, (refl, (refl, (refl, (refl, (refl, (refl, (refl, (refl, (refl, (refl, (refl, tt))))))))))));
+-- the ticks of all records rise
+record_order : AllPairs IsRecordBefore follows.records
+record_order =
+    AllPairs-passes IsRecordBefore (λ (r q : Record). leb r.tick q.tick) (λ r q h same. leb-true r.tick q.tick h) follows.records refl
+
+-- the scenario keeps the rules of all scenarios, so that the laws of entries and of legal runs speak of it
+is_scenario : IsScenario follows
+is_scenario = record {
+  options = search rules;
+  clock_count = (omega arith, omega arith);
+  clocks = All-from_recursion IsOpeningClock follows.clocks (plain_clock_rule, (plain_clock_rule, tt));
+  port_count = (omega arith, omega arith);
+  ports = All-from_recursion IsPortConf follows.ports (plain_port_rule, tt);
+  placed = All-from_recursion (λ (p : PortConf). p.clock < 2) follows.ports (omega arith, tt);
+  together = λ apart. absurd (false≢true (sym apart));
+  records = All-from_recursion (IsRecordOf 1) follows.records (search rules);
+  record_order = record_order;
+  queries = All-nil IsQuery;
+  query_order = λ i j d lt below. absurd (omega arith);
+  turns = All-nil (AreTurnsOf 2 1);
 }
 
 continues : Continues follows entries
@@ -198,32 +215,10 @@ numbers = (
 pub followed_is_open : IsOpen follows followed
 followed_is_open = record {
   opened = refl;
-  course = record { formed = formed; history = continues; lawful = lawful; readings = readings; actions = actions; outcomes = outcomes; numbers = numbers };
+  course = record { formed = record { few = omega arith; each = formed-continues follows is_scenario entries continues }; history = continues; lawful = lawful; readings = readings; actions = actions; outcomes = outcomes; numbers = numbers };
 }
 
 -- ---- the World's run
-
--- the ticks of all records rise
-record_order : AllPairs IsRecordBefore follows.records
-record_order =
-    AllPairs-passes IsRecordBefore (λ (r q : Record). leb r.tick q.tick) (λ r q h same. leb-true r.tick q.tick h) follows.records refl
-
--- the scenario keeps the rules of all scenarios, so that the law of legal runs speaks of it
-is_scenario : IsScenario follows
-is_scenario = record {
-  options = search rules;
-  clock_count = (omega arith, omega arith);
-  clocks = All-from_recursion IsOpeningClock follows.clocks (plain_clock_rule, (plain_clock_rule, tt));
-  port_count = (omega arith, omega arith);
-  ports = All-from_recursion IsPortConf follows.ports (plain_port_rule, tt);
-  placed = All-from_recursion (λ (p : PortConf). p.clock < 2) follows.ports (omega arith, tt);
-  together = λ apart. absurd (false≢true (sym apart));
-  records = All-from_recursion (IsRecordOf 1) follows.records (search rules);
-  record_order = record_order;
-  queries = All-nil IsQuery;
-  query_order = λ i j d lt below. absurd (omega arith);
-  turns = All-nil (AreTurnsOf 2 1);
-}
 
 -- the World of the scenario is that run
 pub follows_to_the_end : status_after follows 17 ≡ Ended (Finished followed_to_the_end)

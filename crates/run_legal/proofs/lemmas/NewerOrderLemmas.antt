@@ -63,7 +63,7 @@ All-reverse_aux : {X : Type 0} (P : X → Type 0) (xs acc : List X) → All P xs
 All-reverse_aux P [] acc all more = more
 All-reverse_aux P (x ∷ xs) acc all more = All-reverse_aux P xs (x ∷ acc) (All-tail P x xs all) (All-cons P x acc (All-head P x xs all) more)
 
-All-reverse : {X : Type 0} (P : X → Type 0) (xs : List X) → All P xs → All P (reverse xs)
+pub All-reverse : {X : Type 0} (P : X → Type 0) (xs : List X) → All P xs → All P (reverse xs)
 All-reverse P xs all = All-reverse_aux P xs [] all (All-nil P)
 
 bounded-after_roles : (c : Core) (r : Roles) → IsBounded r → IsBounded (after_roles c r)

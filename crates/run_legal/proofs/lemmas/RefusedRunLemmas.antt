@@ -33,7 +33,7 @@ some_mark : Mark
 some_mark = record { clock = 0; number = 0; is_change = false }
 
 pub unread_is_refused : IsOpen steers unread → ⊥
-unread_is_refused open_run = false≢true (open_run.course.formed.read 0 some_entry (omega arith))
+unread_is_refused open_run = false≢true (open_run.course.formed.each 0 some_entry (omega arith)).read
 
 tick_in : Option Input → ℕ
 tick_in None = 0

@@ -1,6 +1,6 @@
 -- A run that is open, and legal.
-use Rattle.std.proofs.Common.{◌≡◌, ◌≤◌, ℕ, zero, suc, Bool, true, false, refl, sym, ap, subst, List, [], ◌∷◌, reverse, cond, eqb, leb, arith, Option, Some, None, pos}
-use Rattle.std.specs.Prelude.{All, is_some, Contains, IsSomeAnd}
+use Rattle.std.proofs.Common.{◌≡◌, ◌<◌, ◌≤◌, ℕ, zero, suc, Bool, true, false, refl, sym, ap, subst, List, [], ◌∷◌, reverse, cond, eqb, leb, arith, rules, Option, Some, None, pos}
+use Rattle.std.specs.Prelude.{All, AllPairs, Contains, IsSomeAnd}
 use Rattle.std.proofs.lemmas.Bool.{false≢true, eqb-true, leb-true}
 use Rattle.std.proofs.lemmas.Option.{same_Some}
 use Rattle.std.proofs.lemmas.List.Elements.{All-from_recursion, All-nil, All-cons}
@@ -15,7 +15,7 @@ use Rattle.model_clock.specs.Clock.{plain_clock}
 use Rattle.bc_history.specs.Run.World.{status_after, Ended, Finished}
 use Rattle.bc_history.specs.declared.entry.Input.{Input}
 use Rattle.bc_history.specs.declared.entry.Input.TheVariants.{Frame, Timed, Down, Up, Report, Turn, Sampled, Query}
-use Rattle.bc_history.specs.Phases.Inputs.{is_read, event_of, tick_of, port_at}
+use Rattle.bc_history.specs.Phases.Inputs.{event_of, tick_of, port_at}
 use Rattle.bc_history.specs.Run.NextInputs.{IsNextOf}
 use Rattle.bc_history.specs.Phases.PortPhase.{after_port}
 use Rattle.bc_history.specs.Phases.DecisionPhase.{with_codes, after_hearing}
@@ -24,12 +24,17 @@ use Rattle.bc_history.specs.Phases.NoticePhase.{after_turn}
 use Rattle.bc_history.specs.Phases.EntryEffects.{effects_of, entry_after}
 use Rattle.bc_history.specs.Phases.Step.{step, state_of}
 use Rattle.bc_history.specs.Run.History.{Continues, IsFinished}
+use Rattle.ptp_base.specs.declared.port_conf.PortConf.{PortConf}
+use Rattle.bc_history.specs.declared.scenario.Record.{Record}
+use Rattle.bc_history.specs.Scenario.ScenarioRules.{IsScenario, IsOpeningClock, IsPortConf, IsRecordOf, IsRecordBefore, IsQuery, AreTurnsOf}
+use Rattle.bc_history.proofs.lemmas.OptionRuleLemmas.{plain_port_rule, plain_clock_rule}
 use Rattle.run_legal.specs.Numbers.Marks.{Sight, changes_in}
 use Rattle.ptp_profile.specs.Roles.SeatLogs.{log_at}
 use Rattle.run_legal.specs.Numbers.Knowledge.{IsNumbered}
-use Rattle.run_legal.specs.Runs.Courses.{IsFormed, AreLogs, AreOutcomes, IsReadRight, IsAgreed, IsSeen, IsSteered, EachAfter}
+use Rattle.run_legal.specs.Runs.Courses.{AreLogs, AreOutcomes, IsReadRight, IsAgreed, IsSeen, IsSteered, EachAfter}
 use Rattle.run_legal.specs.Runs.LegalRuns.{IsOpen, IsLegal, IsWindowed, window_of, AreNamed}
 use Rattle.run_legal.specs.Runs.LegalExamples.{steers, steered}
+use Rattle.run_legal.proofs.lemmas.FormedRunLemmas.{formed-continues}
 use Rattle.run_legal.proofs.lemmas.LegalTestLemmas.{other, IsNumbered-test, AllPairs-passes}
 
 abbrev entries : List Entry
@@ -41,13 +46,29 @@ log = Change 1 1 5500000000 (pos 50000) (pos 0) ∷ Order 1 1 ∷ []
 abbrev logs : List (List LogEntry)
 logs = log ∷ []
 
--- a frame or a timer of port 1 follows
-formed : IsFormed entries
-formed = record {
-  few = omega arith;
-  read = All-from_recursion (λ (e : Entry). is_some e.seen ≡ is_read e.input) entries (refl, (refl, (refl, (refl, (refl, (refl, (refl, (refl, (refl, (refl, tt))))))))));
+-- the ticks of all records rise
+record_order : AllPairs IsRecordBefore steers.records
+record_order =
+    AllPairs-passes IsRecordBefore (λ (r q : Record). leb r.tick q.tick) (λ r q h same. leb-true r.tick q.tick h) steers.records refl
+
+-- the scenario keeps the rules of all scenarios, so that the law of entries speaks of it
+is_scenario : IsScenario steers
+is_scenario = record {
+  options = search rules;
+  clock_count = (omega arith, omega arith);
+  clocks = All-from_recursion IsOpeningClock steers.clocks (plain_clock_rule, tt);
+  port_count = (omega arith, omega arith);
+  ports = All-from_recursion IsPortConf steers.ports (plain_port_rule, tt);
+  placed = All-from_recursion (λ (p : PortConf). p.clock < 1) steers.ports (omega arith, tt);
+  together = λ apart i j d lt below. absurd (omega (arith, lt, below));
+  records = All-from_recursion (IsRecordOf 1) steers.records (search rules);
+  record_order = record_order;
+  queries = All-nil IsQuery;
+  query_order = λ i j d lt below. absurd (omega arith);
+  turns = All-nil (AreTurnsOf 1 1);
 }
 
+-- a frame or a timer of port 1 follows
 continues : Continues steers entries
 unfolding number_at message_octets step state_of after_port with_codes after_hearing after_roles after_turn effects_of entry_after
 continues = (
@@ -158,7 +179,7 @@ numbers = (
 pub steered_is_open : IsOpen steers steered
 steered_is_open = record {
   opened = refl;
-  course = record { formed = formed; history = continues; lawful = lawful; readings = readings; actions = actions; outcomes = outcomes; numbers = numbers };
+  course = record { formed = record { few = omega arith; each = formed-continues steers is_scenario entries continues }; history = continues; lawful = lawful; readings = readings; actions = actions; outcomes = outcomes; numbers = numbers };
 }
 
 -- the second entry of the log is the only change

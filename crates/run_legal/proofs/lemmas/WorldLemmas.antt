@@ -66,7 +66,7 @@ follower-placed s w c (suc n) (suc i) f place is at = follower-placed s w c n i 
 opening_course : (s : Scenario) → IsCourse s [] (no_logs s.clocks)
 unfolding state_of
 opening_course s = record {
-  formed = record { few = omega arith; read = All-nil _ };
+  formed = record { few = omega arith; each = All-nil _ };
   history = tt;
   lawful = record { number = length-no_logs s.clocks; lawful = λ clock log is. lawful-no_logs s.clocks clock log clock is };
   readings = All-nil _;

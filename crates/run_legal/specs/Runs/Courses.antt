@@ -1,6 +1,6 @@
 -- Entries and clocks' logs that belong together, the newest first in both: what they say follows
 -- from the scenario, from the logs and from the servos (project).
-use Rattle.std.specs.Prelude.{ℕ, ◌≤◌, ◌≡◌, ◌≢◌, List, [], ◌∷◌, length, All, AllPairs, is_some, IfSome}
+use Rattle.std.specs.Prelude.{ℕ, ◌≤◌, ◌≡◌, ◌≢◌, List, [], ◌∷◌, length, All, AllPairs, IfSome}
 use Rattle.ptp_base.specs.declared.limits.TheConstants.{ENTRIES_MAX}
 use Rattle.model_clock.specs.declared.state.ClockState.{ClockState}
 use Rattle.model_clock.specs.Clock.{clock_at, reading}
@@ -13,9 +13,10 @@ use Rattle.bc_history.specs.declared.entry.Input.TheVariants.{Report, Sampled}
 use Rattle.bc_history.specs.declared.entry.Seen.{Seen}
 use Rattle.bc_history.specs.declared.scenario.Scenario.{Scenario}
 use Rattle.bc_history.specs.Phases.State.{Event}
-use Rattle.bc_history.specs.Phases.Inputs.{tick_of, is_read, event_of}
+use Rattle.bc_history.specs.Phases.Inputs.{tick_of, event_of}
 use Rattle.bc_history.specs.Phases.OpeningState.{servo_of}
 use Rattle.bc_history.specs.Phases.Step.{state_of}
+use Rattle.bc_history.specs.Run.FormedRuns.{IsFormedEntry}
 use Rattle.bc_history.specs.Run.History.{Continues}
 use Rattle.bc_history.specs.Run.ExchangeOutcomes.{Agrees}
 use Rattle.bc_history.specs.Run.Samples.{port_samples, sample_of, follower_samples}
@@ -29,10 +30,10 @@ EachAfter Stands (e ∷ before) = Stands e before × EachAfter Stands before
 
 -- ---- what a text can show
 
--- at most ENTRIES_MAX entries; a frame and a timer come with a reading, and nothing else does
+-- at most ENTRIES_MAX entries, each of which a text can show
 pub record IsFormed (entries : List Entry) : Type 0 where
   pub few : length entries ≤ ENTRIES_MAX
-  pub read : All (λ (e : Entry). is_some e.seen ≡ is_read e.input) entries
+  pub each : All IsFormedEntry entries
 
 -- ---- logs
 
