@@ -3,6 +3,6 @@ pub mod ActorPlaceLemmas
 pub mod ActorTurnLemmas
 pub mod ActorStepLemmas
 pub mod ScheduleLemmas
-pub mod stage
+pub mod DefaultTurnLemmas
 pub mod ActorLoopLemmas
 pub mod NamedTurnLemmas

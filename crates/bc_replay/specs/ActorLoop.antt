@@ -1,20 +1,13 @@
 -- Where a loop over the actors beside a hub stands: where the World is after some number of turns.
-use Rattle.std.specs.Prelude.{◌≡◌, ℕ, ◌+◌, ◌-◌, ◌*◌, ◌≤◌, true, List, [], ◌++◌, length, map, slice_get, Some, None, Option}
-use Rattle.std.specs.List.{range_with_len, sum_by}
+use Rattle.std.specs.Prelude.{◌≡◌, ℕ, ◌+◌, ◌-◌, ◌*◌, ◌≤◌, List, [], length, map, slice_get, Some, None}
+use Rattle.std.specs.List.{sum_by}
 use Rattle.ptp_base.specs.declared.limits.TheConstants.{ENTRIES_MAX}
 use Rattle.bc_history.specs.declared.entry.Who.{Who}
-use Rattle.bc_history.specs.declared.entry.Who.TheVariants.{Port, Follower}
 use Rattle.bc_history.specs.declared.scenario.Scenario.{Scenario}
-use Rattle.bc_history.specs.Phases.OpeningState.{follower_count}
+use Rattle.bc_history.specs.Run.Actors.{actors_of}
 use Rattle.bc_history.specs.Run.World.{Going, World, free_steps, place_of, status_after, turner_at}
 use Rattle.hub_core.specs.HubView.{HubState}
 use Rattle.bc_steps.specs.ActorView.{ActorState, IsJobDue, IsLevel, place_at_opening}
-
--- all who ever act in a scenario without queries: its ports, then its followers, each rising
-abbrev pub acting_of : Scenario → List Who
-acting_of s =
-    map (λ p. Port p) (range_with_len 1 (length s.ports))
-    ++ map (λ c. Follower c) (range_with_len 0 (follower_count s))
 
 -- an actor of a scenario before its first step
 abbrev pub actor_at_opening : Scenario → Who → ActorState
@@ -51,7 +44,7 @@ steps_left hub free = 4 * (ENTRIES_MAX - length hub.entries) + free
 pub record LoopRepresents (s : Scenario) (taken : ℕ) (hub : HubState) (actors : List ActorState) : Type 0 where
   pub scenario : hub.scenario ≡ s
   pub few : length hub.entries ≤ ENTRIES_MAX
-  pub acting : map (λ (a : ActorState). a.who) actors ≡ acting_of s
+  pub acting : map (λ (a : ActorState). a.who) actors ≡ actors_of s
   pub level : AreLevel hub actors
   pub jobs : AreJobsDue s actors
   pub bound : taken + steps_left hub (free_steps_of actors) ≤ 4 * ENTRIES_MAX

@@ -57,7 +57,7 @@ abbrev pub HasNoTurn : HubState → List ActorState → Turner → Type 0
 HasNoTurn hub actors Default = turn_among (due_actors hub actors) ≡ None
 HasNoTurn hub actors (Port p) = IsIdle hub actors (A_port p)
 HasNoTurn hub actors (Clock c) = IsIdle hub actors (A_follower c)
-HasNoTurn hub actors Queries = Unit {0}
+HasNoTurn hub actors Queries = IsIdle hub actors The_queries
 
 -- a line of the schedule has so many turns behind those that were taken
 abbrev pub HasTurns : Scenario → ℕ → Turner → ℕ → Type 0

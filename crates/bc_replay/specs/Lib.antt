@@ -1,4 +1,3 @@
-pub mod Stage
 pub mod ActorTurns
 pub mod ActorLoop
 pub mod ActorSteps

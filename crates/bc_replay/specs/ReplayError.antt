@@ -1,4 +1,4 @@
--- Why a scenario that is supported was not replayed.
+-- Why a scenario was not replayed.
 use Rattle.bc_history.specs.declared.scenario.Scenario.{Scenario}
 use Rattle.bc_history.specs.Run.World.{IsEnd, Events as Too_many, Not_due}
 use Rattle.hub_core.specs.declared.hub.HubError.{HubError}

@@ -9,7 +9,6 @@ ghost use Rattle.bc_replay.specs.ActorLoop.{AreLevel, IsUnscheduledLoop, LoopRep
 ghost use Rattle.bc_replay.specs.ActorSteps.{IsStepError, IsTurnError, StepYields, TurnYields};
 ghost use Rattle.bc_replay.specs.ActorTurns.{HasNoTurn, HasTurns, IsDueAt};
 ghost use Rattle.bc_replay.specs.ReplayError.{IsReplayError};
-ghost use Rattle.bc_replay.specs.Stage.SupportedScenarios.{IsSupported};
 
 use crate::actors::actors_of;
 use crate::turn::{default_turn, turn_of};
@@ -125,7 +124,6 @@ fn take_line(
     line: Turns,
     taken: u32,
 ) -> Result<(), ReplayError>
-    requires supported { IsSupported s.now }
     requires going { LoopRepresents s.now taken hub.old actors.old.items }
     requires there { IsTurnerOf (length s.now.clocks) (length s.now.ports) line.who }
     requires turns { HasTurns s.now taken line.who line.count }
@@ -160,7 +158,6 @@ fn line_at(s: &Scenario, i: usize) -> Turns
 
 /// The turns of the schedule, line by line.
 fn take_schedule(s: &Scenario, hub: &mut Hub, actors: &mut Vec<Actor>) -> Result<(), ReplayError>
-    requires supported { IsSupported s.now }
     requires going { LoopRepresents s.now 0 hub.old actors.old.items }
     ensures going { OnOk result (IsUnscheduledLoop s.now hub.new actors.new.items) }
     ensures error { IfErr result (IsReplayError s.now) }
@@ -181,7 +178,6 @@ fn take_default_turns(
     hub: &mut Hub,
     actors: &mut Vec<Actor>,
 ) -> Result<(), ReplayError>
-    requires supported { IsSupported s.now }
     requires going { IsUnscheduledLoop s.now hub.old actors.old.items }
     ensures going { OnOk result (IsUnscheduledLoop s.now hub.new actors.new.items) }
     ensures none { OnOk result (HasNoTurn hub.new actors.new.items Default) }
@@ -193,12 +189,11 @@ fn take_default_turns(
     Ok(())
 }
 
-/// The run of a scenario that is supported: the turns of its schedule, and then those of the default
-/// rule. It is legal. At each turn of the default rule it looks once at each actor, and copies nothing
-/// of the history. `Events` exactly where the scenario ends at one event too
-/// many; `NotDue` exactly where it ends at a turn of the schedule that has no step.
+/// The run of a scenario: the turns of its schedule, and then those of the default rule. It is legal.
+/// At each turn of the default rule it looks once at each actor, and copies nothing of the history.
+/// `Events` exactly where the scenario ends at one event too many; `NotDue` exactly where it ends at
+/// a turn of the schedule that has no step.
 pub fn replay(alloc: Global, s: &Scenario) -> Result<Run, ReplayError>
-    requires supported { IsSupported s.now }
     ensures run { IfOk result (λ run. IsWorld s.now run) }
     ensures legal { IfOk result (λ run. IsLegal s.now run) }
     ensures error { IfErr result (IsReplayError s.now) }

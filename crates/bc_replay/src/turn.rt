@@ -3,10 +3,11 @@ ghost use Rattle.ptp_base.specs.Least.{lesser};
 ghost use Rattle.bc_history.specs.declared.scenario.Turner.TheVariants.{Default};
 ghost use Rattle.bc_history.specs.Scenario.ScenarioRules.{IsTurnerOf};
 ghost use Rattle.bc_steps.specs.ActorView.{ActorState, due_tick};
-ghost use Rattle.bc_replay.specs.ActorLoop.{AreLevel, acting_of};
+ghost use Rattle.bc_history.specs.Run.Actors.{actors_of};
+ghost use Rattle.bc_replay.specs.ActorLoop.{AreLevel};
 ghost use Rattle.bc_replay.specs.ActorTurns.{HasNoTurn, IsDueAt, IsTurnOf};
 
-use crate::actors::port_count;
+use crate::actors::{follower_count, port_count};
 use bc_history::{Scenario, Turner};
 use bc_steps::{Actor, Hub};
 
@@ -63,7 +64,7 @@ fn due_at(hub: &Hub, actors: &[Actor], i: usize) -> Option<usize>
 /// allocate.
 pub fn turn_of(s: &Scenario, hub: &Hub, actors: &[Actor], who: Turner) -> Option<usize>
     requires level { AreLevel hub.now actors.now }
-    requires acting { map (λ (a : ActorState). a.who) actors.now ≡ acting_of s.now }
+    requires acting { map (λ (a : ActorState). a.who) actors.now ≡ actors_of s.now }
     requires there { IsTurnerOf (length s.now.clocks) (length s.now.ports) who }
     ensures { MatchOption result (HasNoTurn hub.now actors.now who) (IsTurnOf hub.now actors.now who) }
 {
@@ -72,6 +73,6 @@ pub fn turn_of(s: &Scenario, hub: &Hub, actors: &[Actor], who: Turner) -> Option
         Turner::Default => default_turn(hub, actors),
         Turner::Port(port) => due_at(hub, actors, port as usize - 1),
         Turner::Clock(clock) => due_at(hub, actors, port_count(s) + clock as usize),
-        Turner::Queries => None,
+        Turner::Queries => due_at(hub, actors, port_count(s) + follower_count(s)),
     }
 }

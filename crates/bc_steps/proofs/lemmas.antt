@@ -11,3 +11,4 @@ pub mod ServedFollowerLemmas
 pub mod FollowerStepLemmas
 pub mod FollowerOpeningLemmas
 pub mod JobDueLemmas
+pub mod QueryActorLemmas

@@ -2,12 +2,13 @@
 use Rattle.bc_steps.specs.ActorView.{ActorState}
 use Rattle.bc_steps.specs.declared.actor.Actor.TheInside.{Inside}
 use Rattle.bc_steps.specs.declared.actor.ActorKind.{ActorKind}
-use Rattle.bc_steps.specs.declared.actor.ActorKind.TheVariants.{Port, Follower}
+use Rattle.bc_steps.specs.declared.actor.ActorKind.TheVariants.{Port, Follower, Queries}
 
--- either kind is an actor
+-- each kind is an actor
 abbrev pub kind_view : ActorKind → ActorState
 kind_view (Port actor) = actor
 kind_view (Follower actor) = actor
+kind_view (Queries actor) = actor
 
 -- the actor as contracts see it
 abbrev pub actor_view : Inside → ActorState

@@ -19,12 +19,6 @@ pub record ActorState : Type 0 where
   pub entries : List Entry
   pub place : Place
 
--- ports and followers act so far; queries do not yet
-abbrev pub IsActing : Who → Type 0
-IsActing (Port p) = Unit {0}
-IsActing (Follower c) = Unit {0}
-IsActing Queries = ⊥
-
 -- where an actor is before its first step
 abbrev pub place_at_opening : Who → Place
 place_at_opening (Port p) = Of_port Waits

@@ -5,4 +5,5 @@ pub mod ActorView
 pub mod PortActors
 pub mod FollowerJob
 pub mod FollowerActors
+pub mod QueryActors
 pub mod ActorKinds

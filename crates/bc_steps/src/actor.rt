@@ -2,10 +2,11 @@ ghost use Rattle.std.specs.Prelude.{◌≡◌, ◌↔◌, ◌<◌, true, false, 
 ghost use Rattle.ptp_base.specs.declared.limits.TheConstants.{ENTRIES_MAX};
 ghost use Rattle.bc_history.specs.Run.Actors.{actors_of};
 ghost use Rattle.bc_history.specs.Run.World.{World, Event, Free, free_steps, is_busy, is_inside, step_of};
-ghost use Rattle.bc_steps.specs.ActorView.{due_tick, is_ready, place_at_opening, world_with, AddsOwn, IsActing, IsIn, IsJobDue, IsLevel, IsPlaceOf, IsSameActor, IsSameHistory};
+ghost use Rattle.bc_steps.specs.ActorView.{due_tick, is_ready, place_at_opening, world_with, AddsOwn, IsIn, IsJobDue, IsLevel, IsPlaceOf, IsSameActor, IsSameHistory};
 
 use crate::follower::actor::FollowerActor;
 use crate::port::actor::PortActor;
+use crate::queries::QueryActor;
 use bc_history::{Scenario, Who};
 use hub_core::{Hub, HubError};
 use ptp_base::NoMemory;
@@ -19,10 +20,12 @@ enum ActorKind {
     Port(PortActor),
     /// The follower of a clock, with its servo.
     Follower(FollowerActor),
+    /// The queries.
+    Queries(QueryActor),
 }
 
-/// One who acts in a run: a port or a follower, with its servo. Contracts see its scenario, who it
-/// is, its own entries, the newest first, and where it is in its job.
+/// One who acts in a run: a port or a follower, with its servo, or the queries. Contracts see its
+/// scenario, who it is, its own entries, the newest first, and where it is in its job.
 #[derive(Drop)]
 pub struct Actor {
     kind: ActorKind,
@@ -38,11 +41,10 @@ impl Model for Actor {
 }
 
 impl Actor {
-    /// An actor of a scenario before the first entry: a port or a follower. It keeps what it needs,
-    /// and needs the scenario no more.
+    /// An actor of a scenario before the first entry. It keeps what it needs, and needs the scenario
+    /// no more.
     pub fn new(alloc: Global, s: &Scenario, who: Who) -> Result<Actor, NoMemory>
         requires there { Contains (actors_of s.now) who }
-        requires acting { IsActing who }
         ensures { IfOk result (λ actor. actor ≡ record {
           scenario = s.now;
           who = who;
@@ -53,7 +55,7 @@ impl Actor {
         let kind = match who {
             Who::Port(number) => ActorKind::Port(PortActor::new(alloc, s, number)?),
             Who::Follower(clock) => ActorKind::Follower(FollowerActor::new(alloc, s, clock)),
-            Who::Queries => unreachable!(),
+            Who::Queries => ActorKind::Queries(QueryActor::new(alloc, s)?),
         };
         Ok(Actor { kind })
     }
@@ -67,6 +69,7 @@ impl Actor {
         match &self.kind {
             ActorKind::Port(port) => port.due(hub),
             ActorKind::Follower(follower) => follower.due(),
+            ActorKind::Queries(queries) => queries.due(hub),
         }
     }
 
@@ -77,6 +80,10 @@ impl Actor {
         match &self.kind {
             ActorKind::Port(port) => port.is_busy(),
             ActorKind::Follower(follower) => follower.is_busy(),
+            ActorKind::Queries(queries) => {
+                queries.kind();
+                false
+            }
         }
     }
 
@@ -87,6 +94,10 @@ impl Actor {
         match &self.kind {
             ActorKind::Port(port) => port.inside(),
             ActorKind::Follower(follower) => follower.inside(),
+            ActorKind::Queries(queries) => {
+                queries.kind();
+                true
+            }
         }
     }
 
@@ -99,6 +110,7 @@ impl Actor {
         match &self.kind {
             ActorKind::Port(port) => port.kind(),
             ActorKind::Follower(follower) => follower.kind(),
+            ActorKind::Queries(queries) => queries.kind(),
         }
     }
 
@@ -122,6 +134,7 @@ impl Actor {
         match &mut self.kind {
             ActorKind::Port(port) => port.event(hub, until),
             ActorKind::Follower(follower) => follower.event(hub, until),
+            ActorKind::Queries(queries) => queries.event(hub, until),
         }
     }
 
@@ -141,6 +154,10 @@ impl Actor {
         match &mut self.kind {
             ActorKind::Port(port) => port.free(hub),
             ActorKind::Follower(follower) => follower.free(hub),
+            ActorKind::Queries(queries) => {
+                queries.kind();
+                unreachable!()
+            }
         }
     }
 }

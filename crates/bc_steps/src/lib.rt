@@ -1,4 +1,5 @@
-//! Who acts in a run, one step at a time. An actor is a port or a follower. A port's job is an event
+//! Who acts in a run, one step at a time. An actor is a port, a follower, or the queries, each of
+//! which is one event. A port's job is an event
 //! of the hub, and where that gave a measure, the exchange of its servo's action, and its report. A
 //! follower's job is a turn, and where that told it whom to copy, a reading of that clock, a reading
 //! of its own, the exchange of its servo's action, and its sample. Events are steps of the hub; each
@@ -9,6 +10,7 @@ mod actor;
 mod exchange;
 mod follower;
 mod port;
+mod queries;
 mod servo_conf;
 mod ticks;
 

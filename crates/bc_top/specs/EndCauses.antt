@@ -1,10 +1,11 @@
 -- What a call ends with, and why.
 use Rattle.std.specs.Prelude.{ℕ, List}
 use Rattle.text_io.specs.declared.reason.Reason.{Reason}
+use Rattle.bc_history.specs.Scenario.LineFaults.{IsFirstFault}
 use Rattle.bc_top.specs.CommandWords.{IsReplay}
 use Rattle.bc_top.specs.ReadToEnd.{IsUnread, IsReadPart, IsReadWhole, IsReadTooFar, IsReadFault}
 use Rattle.bc_top.specs.WriteAll.{IsUnwritten, IsWritten, IsWriteFault}
-use Rattle.bc_top.specs.Call.{Call, IsTranscriptOf, IsRefusal, IsOutOfTurn, IsOverfull}
+use Rattle.bc_top.specs.Call.{Call, IsTranscriptOf, IsOutOfTurn, IsOverfull}
 use Rattle.bc_top.specs.declared.outcome.End.{End}
 use Rattle.bc_top.specs.declared.outcome.End.TheVariants.{Done, Usage, Refused, ReadFault, WriteFault, Events, NoMemory, NotDue, TooLong}
 
@@ -23,13 +24,12 @@ pub record IsUsage (c : Call) : Type 0 where
   pub unread : IsUnread c.reads
   pub unwritten : IsUnwritten c.writes
 
--- the source was read to its end, and what was read is refused: by its first fault, or as a
--- scenario that is not supported
+-- the source was read to its end, and what was read is refused by its first fault
 pub record IsRefused (c : Call) (line : ℕ) (reason : Reason) : Type 0 where
   pub replay : IsReplay c.words
   pub text : List ℕ
   pub read : IsReadWhole c.reads text
-  pub refusal : IsRefusal text line reason
+  pub fault : IsFirstFault text line reason
   pub unwritten : IsUnwritten c.writes
 
 -- a read failed

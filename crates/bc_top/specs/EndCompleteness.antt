@@ -4,13 +4,11 @@ use Rattle.std.specs.Prelude.{◌≡◌, ◌⊎◌, ℕ, ◌<◌, ◌≤◌, Lis
 use Rattle.ptp_base.specs.declared.limits.TheConstants.{TEXT_MAX}
 use Rattle.text_io.specs.SourceAndSink.{Rose}
 use Rattle.text_io.specs.declared.reason.Reason.{Reason}
-use Rattle.text_io.specs.declared.reason.Reason.TheVariants.{Unbuilt}
 use Rattle.bc_history.specs.declared.scenario.Scenario.{Scenario}
 use Rattle.bc_history.specs.declared.entry.Run.{Run}
 use Rattle.bc_history.specs.Scenario.LineFaults.{Stands, IsFirstFault}
 use Rattle.bc_history.specs.Run.World.{IsWorld, IsEnd, Events as Too_many, Not_due}
 use Rattle.bc_top.specs.CommandWords.{IsReplay}
-use Rattle.bc_replay.specs.Stage.SupportedScenarios.{IsSupported, IsUnsupported}
 use Rattle.bc_top.specs.Call.{Call}
 use Rattle.bc_top.specs.declared.outcome.End.{End}
 use Rattle.bc_top.specs.declared.outcome.End.TheVariants.{Done, Refused, Events, NoMemory, NotDue, TooLong}
@@ -21,14 +19,12 @@ EndsBy due end = (end ≡ due) ⊎ (end ≡ NoMemory)
 
 -- the end that is due at a text
 pub record IsEndAt (text : List ℕ) (end : End) : Type 0 where
-  pub done : length text ≤ TEXT_MAX → (s : Scenario) (run : Run) → Stands text s → IsSupported s
+  pub done : length text ≤ TEXT_MAX → (s : Scenario) (run : Run) → Stands text s
       → IsWorld s run → EndsBy Done end
-  pub events : length text ≤ TEXT_MAX → (s : Scenario) → Stands text s → IsSupported s
+  pub events : length text ≤ TEXT_MAX → (s : Scenario) → Stands text s
       → IsEnd s Too_many → EndsBy Events end
-  pub not_due : length text ≤ TEXT_MAX → (s : Scenario) (turn : ℕ) → Stands text s → IsSupported s
+  pub not_due : length text ≤ TEXT_MAX → (s : Scenario) (turn : ℕ) → Stands text s
       → IsEnd s (Not_due turn) → EndsBy (NotDue turn) end
-  pub unsupported : length text ≤ TEXT_MAX → (s : Scenario) → Stands text s → IsUnsupported s
-      → EndsBy (Refused 0 Unbuilt) end
   pub refused : length text ≤ TEXT_MAX → (line : ℕ) (reason : Reason)
       → IsFirstFault text line reason → EndsBy (Refused line reason) end
   pub too_long : TEXT_MAX < length text → EndsBy TooLong end

@@ -12,7 +12,7 @@ pub enum End {
     Usage,
     /// The text that was read is no scenario.
     Refused {
-        /// The first line at fault, from 1; 0 is the text as a whole.
+        /// The first line at fault, from 1.
         line: u32,
         /// What is wrong with it.
         reason: Reason,
@@ -56,7 +56,7 @@ impl End {
 /// Why a text has no transcript.
 #[derive(Clone, Copy, Debug, PartialEq, Eq)]
 pub enum NoTranscript {
-    /// The text is no scenario, or line 0, its scenario is not supported.
+    /// The text is no scenario.
     Refused { line: u32, reason: Reason },
     /// `ENTRIES_MAX` entries were held and another event was due.
     Events,

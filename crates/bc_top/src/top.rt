@@ -1,6 +1,5 @@
 ghost use Rattle.std.specs.Prelude.{◌≡◌, ℕ, ◌≤◌, ◌++◌, List, length, map, IfOk, IfErr, string_bytes};
 ghost use Rattle.bc_history.specs.Scenario.LineFaults.{Stands};
-ghost use Rattle.bc_replay.specs.Stage.SupportedScenarios.{IsSupported};
 ghost use Rattle.ptp_base.specs.declared.limits.TheConstants.{TEXT_MAX};
 ghost use Rattle.bc_top.specs.ReadToEnd.{reads_of};
 ghost use Rattle.bc_top.specs.WriteAll.{writes_of};
@@ -14,31 +13,23 @@ use crate::words::is_replay;
 use crate::write::write_all;
 use bc_config::{Refusal, scenario};
 use bc_history::Scenario;
-use bc_replay::{ReplayError, is_supported, replay};
+use bc_replay::{ReplayError, replay};
 use ptp_base::Octets;
 use std::alloc::Global;
-use text_io::{Reason, Sink, Source};
-use transcript::transcript;
+use text_io::{Sink, Source};
+use transcript::write;
 
-/// The scenario that the text stands for, where it is supported.
-fn supported_scenario(alloc: Global, text: &[u8]) -> Result<Scenario, NoTranscript>
+/// The scenario that the text stands for.
+fn scenario_of(alloc: Global, text: &[u8]) -> Result<Scenario, NoTranscript>
     requires short { length text.now ≤ TEXT_MAX }
     ensures stands { IfOk result (λ s. Stands text.now s) }
-    ensures supported { IfOk result IsSupported }
     ensures without { IfErr result (IsWithout text.now) }
 {
-    let s = match scenario(alloc, text) {
-        Ok(s) => s,
-        Err(Refusal::Line { line, reason }) => return Err(NoTranscript::Refused { line, reason }),
-        Err(Refusal::NoMemory) => return Err(NoTranscript::NoMemory),
-    };
-    if is_supported(&s) {
-        return Ok(s);
+    match scenario(alloc, text) {
+        Ok(s) => Ok(s),
+        Err(Refusal::Line { line, reason }) => Err(NoTranscript::Refused { line, reason }),
+        Err(Refusal::NoMemory) => Err(NoTranscript::NoMemory),
     }
-    Err(NoTranscript::Refused {
-        line: 0,
-        reason: Reason::Unbuilt,
-    })
 }
 
 /// The transcript of the run of the scenario that the text stands for.
@@ -47,15 +38,16 @@ fn transcript_of(alloc: Global, text: &[u8]) -> Result<Octets, NoTranscript>
     ensures transcript { IfOk result (λ out. IsTranscriptOf text.now out) }
     ensures without { IfErr result (IsWithout text.now) }
 {
-    let s = supported_scenario(alloc, text)?;
+    let s = scenario_of(alloc, text)?;
     let run = match replay(alloc, &s) {
         Ok(run) => run,
         Err(ReplayError::NoMemory) => return Err(NoTranscript::NoMemory),
         Err(ReplayError::Events) => return Err(NoTranscript::Events),
         Err(ReplayError::NotDue { turn }) => return Err(NoTranscript::NotDue { turn }),
     };
-    match transcript(alloc, &run) {
-        Ok(out) => Ok(out),
+    let mut out = Octets::new(alloc);
+    match write(alloc, &run, &mut out) {
+        Ok(()) => Ok(out),
         Err(_) => Err(NoTranscript::NoMemory),
     }
 }

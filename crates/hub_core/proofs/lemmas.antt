@@ -2,5 +2,6 @@ pub mod PortEntryLemmas
 pub mod EntryLemmas
 pub mod HubLemmas
 pub mod EffectRoomLemmas
-pub mod FollowerEntryLemmas
+pub mod PortlessEntryLemmas
 pub mod NoticeLemmas
+pub mod QueryEntryLemmas

@@ -1,5 +1,5 @@
 -- A hub: its scenario, its history and the clocks' logs; and what an event adds to it.
-use Rattle.std.specs.Prelude.{◌≡◌, ℕ, ◌≤◌, true, List, [], ◌∷◌, length, reverse, is_some, All, IfSome, Option, None, Result, Ok, Err}
+use Rattle.std.specs.Prelude.{◌≡◌, ℕ, ◌≤◌, ◌%◌, true, List, [], ◌∷◌, length, reverse, is_some, All, IfSome, Option, None, Result, Ok, Err}
 use Rattle.model_clock.specs.Clock.{clock_at}
 use Rattle.ptp_profile.specs.declared.seats.LogEntry.{LogEntry}
 use Rattle.ptp_profile.specs.declared.seats.Reading.{Reading}
@@ -97,6 +97,14 @@ abbrev pub IsMeasuredTime : Effects → Type 0
 IsMeasuredTime effects =
     IfSome effects.measure (λ (m : Measure × Held). IsTime m.0.local)
 
+-- what an event made of a hub, and what it told: the history has the entry of the input with the
+-- reading of the port's clock, and what was measured bears a time that a clock read
+pub record HubYields (old : HubState) (input : Input) (new : HubState) (result : Effects) : Type 0 where
+  pub entry : new ≡ with_entry old (entry_by old input (newest_seen new.entries))
+  pub reading : newest_seen new.entries ≡ reading_at old input
+  pub told : result ≡ (entry_by old input (newest_seen new.entries)).effects
+  pub measured : IsMeasuredTime result
+
 -- what always holds of a hub
 pub record IsHub (i : Inside) : Type 0 where
   pub rules : IsScenario i.scenario.value
@@ -104,4 +112,6 @@ pub record IsHub (i : Inside) : Type 0 where
   pub times : All IsReadTime (history_of i)
   pub machine : PartsRepresent i.scenario.value i.machine (state_of i.scenario.value (history_of i))
   pub gener : i.machine.roles.generation.gener ≤ length i.entries
+  pub few_asked : i.asked ≤ length i.entries
   pub asked : i.asked ≡ (state_of i.scenario.value (history_of i)).queries
+  pub sequence : i.sequence ≡ (state_of i.scenario.value (history_of i)).requests % 65536

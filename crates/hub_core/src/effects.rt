@@ -1,8 +1,9 @@
 ghost use Rattle.std.specs.Prelude.{◌≡◌, length, map};
-ghost use Rattle.hub_core.specs.EffectParts.{effects_with, follower_entry, sent_by};
+ghost use Rattle.hub_core.specs.EffectParts.{effects_with, follower_entry, portless_effects, query_entry, sent_by};
 ghost use Rattle.hub_core.specs.EffectRooms.{HasPlacesFor};
 
-use bc_history::{Effects, Entry, Input, RoleOrders, Sends, Sent, Told};
+use crate::reply::Reply;
+use bc_history::{Answers, AskError, Effects, Entry, Input, RoleOrders, Sends, Sent, Told};
 use bc_ports::EventOutcome;
 use port_engine::Frames;
 use ptp_base::{Items, Room};
@@ -48,6 +49,29 @@ pub fn effects_with(
     }
 }
 
+/// What an input of no port tells: a follower its lead, a query why it makes no request, or its
+/// answers. Does not allocate.
+fn portless_effects(
+    alloc: Global,
+    told: Option<Told>,
+    asked: Option<AskError>,
+    answers: Answers,
+) -> Effects
+    ensures { result ≡ portless_effects told asked answers }
+{
+    Effects {
+        fate: None,
+        states: Items::new(alloc),
+        parent: None,
+        orders: Items::new(alloc),
+        measure: None,
+        frames: Items::new(alloc),
+        told,
+        asked,
+        answers,
+    }
+}
+
 /// The entry of a follower, at a moment in ns: it tells what the follower is told, and nothing else.
 pub fn follower_entry(alloc: Global, input: Input, moment: u64, told: Option<Told>) -> Entry
     ensures { result ≡ follower_entry input moment told }
@@ -56,16 +80,25 @@ pub fn follower_entry(alloc: Global, input: Input, moment: u64, told: Option<Tol
         input,
         moment,
         seen: None,
-        effects: Effects {
-            fate: None,
-            states: Items::new(alloc),
-            parent: None,
-            orders: Items::new(alloc),
-            measure: None,
-            frames: Items::new(alloc),
-            told,
-            asked: None,
-            answers: Items::new(alloc),
-        },
+        effects: portless_effects(alloc, told, None, Items::new(alloc)),
     }
+}
+
+/// The entry of a query, at a moment in ns: it tells why it makes no request, or what answers it.
+pub fn query_entry(alloc: Global, input: Input, moment: u64, reply: Reply) -> Entry
+    ensures { result ≡ query_entry input moment reply.asked reply.answers }
+{
+    Entry {
+        input,
+        moment,
+        seen: None,
+        effects: query_effects(alloc, reply),
+    }
+}
+
+/// What a query tells. Does not allocate.
+pub fn query_effects(alloc: Global, reply: Reply) -> Effects
+    ensures { result ≡ portless_effects None reply.asked reply.answers }
+{
+    portless_effects(alloc, None, reply.asked, reply.answers)
 }

@@ -1,4 +1,4 @@
-ghost use Rattle.std.specs.Prelude.{◌≡◌, ◌↔◌, length, reverse, All, Err, IfOk, OnOk, OnErr};
+ghost use Rattle.std.specs.Prelude.{◌≡◌, ◌<◌, ◌↔◌, length, reverse, All, Err, IfOk, OnOk, OnErr};
 ghost use Rattle.std.specs.Option.{option_and_then};
 ghost use Rattle.ptp_base.specs.declared.limits.TheConstants.{ENTRIES_MAX};
 ghost use Rattle.ptp_profile.specs.Roles.SeatLogs.{logs_from};
@@ -10,7 +10,7 @@ ghost use Rattle.bc_history.specs.Run.NextInputs.{IsDue};
 ghost use Rattle.bc_history.specs.Phases.HubPort.{HubPort};
 ghost use Rattle.bc_history.specs.Phases.Step.{state_of};
 ghost use Rattle.hub_core.specs.FollowerInputs.{IsServed};
-ghost use Rattle.hub_core.specs.HubView.{AreLawfulLogs, HubState, IsMeasuredTime, draft_entry, entry_by, newest_seen, hub_at_opening, reading_at, with_entry};
+ghost use Rattle.hub_core.specs.HubView.{AreLawfulLogs, HubState, HubYields, IsMeasuredTime, draft_entry, entry_by, newest_seen, hub_at_opening, reading_at, with_entry};
 
 use crate::effect_copies::trimmed_entry;
 use crate::effect_rooms::{EffectCopies, EffectRooms};
@@ -47,11 +47,14 @@ impl From<NoMemory> for HubError {
 /// history and the clocks' logs, the newest entry first.
 #[derive(Drop)]
 pub struct Hub {
-    alloc: Global,
+    pub(crate) alloc: Global,
     scenario: Snapshot<Scenario>,
     pub(crate) machine: HubParts,
-    entries: Entries,
-    asked: u32,
+    pub(crate) entries: Entries,
+    /// How many queries came.
+    pub(crate) asked: u32,
+    /// The sequence of the next request: how many requests there were, modulo 65,536.
+    pub(crate) sequence: u16,
 }
 
 impl Model for Hub {
@@ -76,16 +79,16 @@ impl Hub {
             machine: HubParts::new(alloc, s)?,
             entries: Items::new(alloc),
             asked: 0,
+            sequence: 0,
         })
     }
 
-    /// One event of a port or of a follower: the history has one entry more, with the reading of the
-    /// port's clock where the input comes with one, and its orders stand in the logs. The input is the
-    /// next one of its port or its follower, and due. Events exactly where the history has
-    /// `ENTRIES_MAX` entries. A refusal leaves the hub as it was.
+    /// One event: the history has one entry more, with the reading of the port's clock where the
+    /// input comes with one, and its orders stand in the logs. The input is the next one of its actor,
+    /// and due. Events exactly where the history has `ENTRIES_MAX` entries. A refusal leaves the hub
+    /// as it was.
     pub fn event(&mut self, input: Input) -> Result<Effects, HubError>
         requires due { IsDue self.old.scenario (state_of self.old.scenario self.old.entries) input }
-        requires own { IsServed input }
         ensures events { (result ≡ Err HubError.Events) ↔ (length self.old.entries ≡ ENTRIES_MAX) }
         ensures entry { OnOk result (self.new
             ≡ with_entry self.old (entry_by self.old input (newest_seen self.new.entries))) }
@@ -98,6 +101,20 @@ impl Hub {
         if self.entries.len() >= ENTRIES_MAX as usize {
             return Err(HubError::Events);
         }
+        Ok(match input {
+            Input::Query { tick, text } => self.take_query(tick, text)?,
+            input => self.serve(input)?,
+        })
+    }
+
+    /// One event of a port or of a follower, where the history has a place for it.
+    fn serve(&mut self, input: Input) -> Result<Effects, NoMemory>
+        requires due { IsDue self.old.scenario (state_of self.old.scenario self.old.entries) input }
+        requires own { IsServed input }
+        requires few { length self.old.entries < ENTRIES_MAX }
+        ensures yields { IfOk result (HubYields self.old input self.new) }
+        ensures same { OnErr result (self.new ≡ self.old) }
+    {
         let ports = self.machine.core.ports.len();
         let clocks = self.machine.roles.clocks();
         let rooms = EffectRooms::with(self.alloc, ports, clocks)?;

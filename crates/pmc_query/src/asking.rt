@@ -4,7 +4,7 @@ ghost use Rattle.std.specs.Prelude.{◌≡◌, ◌≤◌, ◌<◌, ◌+◌, ◌-
 ghost use Rattle.std.specs.Option.{option_copied};
 ghost use Rattle.std.specs.Char.{is_ascii_digit};
 ghost use Rattle.std.specs.List.{list_all, position};
-ghost use Rattle.ptp_management.specs.ManagementQueries.{action_asked, action_named, aimed, asked_by, asked_of, name_asked, named_asked, is_number, number_of_digits, request_octets, target_asked, target_named, words_of};
+ghost use Rattle.ptp_management.specs.ManagementQueries.{action_asked, action_named, aimed, asked_by, asked_of, name_asked, named_asked, is_number, number_of_digits, request_octets, request_of, target_asked, target_named, words_of};
 ghost use Rattle.pmc_query.specs.QueryWords.{words_behind};
 
 use ptp_base::{ClockId, NoMemory, Octets, PortId};
@@ -210,19 +210,12 @@ pub fn ask(text: &[u8]) -> Result<Request, AskError>
     action_asked(action_named(word), rest)
 }
 
-/// Appends the octets of a request, of a sequence and in a domain (IEEE 1588-2019, 15.4.1): from
-/// port 1 of clock 0 to all clocks, without data; or nothing where memory runs out.
-pub fn spell(
-    alloc: Global,
-    r: &Request,
-    seq: u16,
-    domain: u8,
-    out: &mut Octets,
-) -> Result<(), NoMemory>
-    ensures ok { OnOk result (out.new ≡ out.old ++ request_octets domain seq r.now) }
-    ensures err { OnErr result (out.new ≡ out.old) }
+/// The management message of a request, of a sequence (IEEE 1588-2019, 15.4.1): from port 1 of clock
+/// 0 to all clocks, without data. Does not allocate.
+pub fn request(alloc: Global, r: &Request, seq: u16) -> Managed
+    ensures { result ≡ request_of r.now seq }
 {
-    let request = Managed {
+    Managed {
         sender: PortId {
             clock: ClockId { id: 0 },
             port: 1,
@@ -237,6 +230,20 @@ pub fn spell(
             id: r.id,
             octets: Octets::new(alloc),
         },
-    };
-    write(alloc, &request, domain, out)
+    }
+}
+
+/// Appends the octets of a request, of a sequence and in a domain (15.4.1), or nothing where memory
+/// runs out.
+pub fn spell(
+    alloc: Global,
+    r: &Request,
+    seq: u16,
+    domain: u8,
+    out: &mut Octets,
+) -> Result<(), NoMemory>
+    ensures ok { OnOk result (out.new ≡ out.old ++ request_octets domain seq r.now) }
+    ensures err { OnErr result (out.new ≡ out.old) }
+{
+    write(alloc, &request(alloc, r, seq), domain, out)
 }

@@ -9,7 +9,7 @@ mod showing;
 mod values;
 
 pub use answering::answer;
-pub use asking::{ask, spell};
+pub use asking::{ask, request, spell};
 pub use forms::{add_hex, add_port, state_name};
 pub use printing::print;
 pub use ptp_management::{Answers, AskError, Request};

@@ -19,12 +19,9 @@ use Rattle.bc_history.specs.Phases.OpeningState.{follower_count}
 use Rattle.bc_history.specs.Scenario.ScenarioRules.{IsScenario, IsTurnerOf}
 use Rattle.bc_history.specs.declared.place.PortPlace.{PortPlace}
 use Rattle.bc_history.specs.declared.place.PortPlace.TheVariants.{Waits}
-use Rattle.bc_history.specs.declared.scenario.Asked.{Asked}
 use Rattle.bc_history.specs.declared.scenario.Scenario.{Scenario}
-use Rattle.bc_history.specs.Phases.Step.{state_of}
-use Rattle.bc_history.specs.Run.NextInputs.{query_input}
-use Rattle.bc_history.specs.Run.Actors.{actor_of, entries_of, is_by, is_same_actor}
-use Rattle.bc_history.specs.Run.World.{End, Ended, Events, Finished, Going, IsEnd, IsWorld, Not_due, Of_follower, Of_port, Status, Step, World, default_turn, free_steps, next_status, place_of, run_of, status_after, status_after_turn, step_of, take_step, turn_of, turner_at, world_opening}
+use Rattle.bc_history.specs.Run.Actors.{actors_of, entries_of, is_same_actor}
+use Rattle.bc_history.specs.Run.World.{End, Ended, Events, Finished, Going, IsEnd, IsWorld, Not_due, Of_follower, Of_port, Status, Step, World, free_steps, next_status, place_of, run_of, status_after, status_after_turn, step_of, take_step, turn_of, turner_at, world_opening}
 use Rattle.hub_core.specs.HubView.{HubState, hub_at_opening}
 use Rattle.bc_steps.specs.ActorView.{ActorState, AddsOwn, IsIn, IsJobDue, IsLevel, IsPlaceOf, IsSameActor, IsSameHistory, due_tick, is_ready, place_at_opening, world_with}
 use Rattle.run_legal.specs.Runs.LegalRuns.{IsLegal}
@@ -32,15 +29,14 @@ use Rattle.run_legal.proofs.lemmas.NamedEndLemmas.{run-legal}
 use Rattle.run_legal.proofs.lemmas.StepLemmas.{stays-right}
 use Rattle.bc_replay.specs.declared.run.ReplayError.{ReplayError}
 use Rattle.bc_replay.specs.declared.run.ReplayError.TheVariants.{NoMemory as Lacks, Events as Too_many, NotDue as Has_no_step}
-use Rattle.bc_replay.specs.ActorLoop.{AreIn, AreJobsDue, AreLevel, IsPastSchedule, IsUnscheduledLoop, LoopRepresents, acting_of, actor_at_opening, free_steps_of, steps_left}
+use Rattle.bc_replay.specs.ActorLoop.{AreIn, AreJobsDue, AreLevel, IsUnscheduledLoop, LoopRepresents, actor_at_opening, free_steps_of, steps_left}
 use Rattle.bc_replay.specs.ActorSteps.{IsStepError, IsTurnError, StepLeadsTo, StepYields, TurnYields}
-use Rattle.bc_replay.specs.ActorTurns.{HasNoTurn, HasTurns, IsDueAt, IsIdle, IsNamed, IsTurnOf, IsTurnerAt, due_actors, turn_among, turner_or_default}
+use Rattle.bc_replay.specs.ActorTurns.{HasNoTurn, IsDueAt, IsIdle, IsNamed, IsTurnOf, IsTurnerAt, turner_or_default}
 use Rattle.bc_replay.specs.ReplayError.{IsReplayError}
-use Rattle.bc_replay.specs.Stage.SupportedScenarios.{IsSupported}
 use Rattle.bc_replay.proofs.lemmas.ActorListLemmas.{each-set, map-set}
-use Rattle.bc_replay.proofs.lemmas.ActorPlaceLemmas.{IsFollowerAt, IsPortAt, acting-apart, acting-at, acting-follower, acting-port, entries-other, placed-entries, placed-logs, placed-other, placed-own}
+use Rattle.bc_replay.proofs.lemmas.ActorPlaceLemmas.{ActsAt, acting-apart, acting-at, acting-follower, acting-port, acting-queries, entries-other, placed-entries, placed-logs, placed-other, placed-own}
 use Rattle.bc_replay.proofs.lemmas.ActorStepLemmas.{due-ready, step-none}
-use Rattle.bc_replay.proofs.lemmas.stage.UnaskedTurnLemmas.{turn-unasked}
+use Rattle.bc_replay.proofs.lemmas.DefaultTurnLemmas.{turn-all}
 use Rattle.bc_history.proofs.lemmas.CoreInvariantLemmas.{option_map-some}
 
 -- ---- the opening
@@ -102,27 +98,28 @@ turns-at (suc n) (suc c) lt = turns-at n c (omega (arith, lt))
 follower-opening : (s : Scenario) (c : ℕ) → c < follower_count s → place_of (world_opening s) (Follower c) ≡ Some (Of_follower Turns_next)
 follower-opening s c lt = ap (λ (o : Option FollowerPlace). option_map (λ (p : FollowerPlace). Of_follower p) o) (turns-at (follower_count s) c lt)
 
-acting-opening : (s : Scenario) (i : ℕ) (who : Who) → IsPortAt s i who ⊎ IsFollowerAt s i who → place_of (world_opening s) (actor_at_opening s who).who ≡ Some (actor_at_opening s who).place
-acting-opening s i who (inl at) =
+acting-opening : (s : Scenario) (i : ℕ) (who : Who) → ActsAt s i who → place_of (world_opening s) (actor_at_opening s who).who ≡ Some (actor_at_opening s who).place
+acting-opening s i who (inl (inl at)) =
     let next : 1 + i ≡ suc i = omega arith in
     rw (at.is, next) (port-opening s i at.there)
-acting-opening s i who (inr at) = rw at.is (follower-opening s at.clock at.there)
+acting-opening s i who (inl (inr at)) = rw at.is (follower-opening s at.clock at.there)
+acting-opening s i who (inr at) = rw at.is refl
 
-places-opening : (s : Scenario) (i : ℕ) (a : ActorState) → slice_get (map (actor_at_opening s) (acting_of s)) i ≡ Some a → place_of (world_opening s) a.who ≡ Some a.place
+places-opening : (s : Scenario) (i : ℕ) (a : ActorState) → slice_get (map (actor_at_opening s) (actors_of s)) i ≡ Some a → place_of (world_opening s) a.who ≡ Some a.place
 places-opening s i a there =
-    let (who, at, is) = made-for s (acting_of s) i a there in
+    let (who, at, is) = made-for s (actors_of s) i a there in
     subst (λ (b : ActorState). place_of (world_opening s) b.who ≡ Some b.place) is (acting-opening s i who (acting-at s i who at))
 
 -- a hub and its actors begin where the World does
-pub Loop-opening : (s : Scenario) → LoopRepresents s 0 (hub_at_opening s) (map (actor_at_opening s) (acting_of s))
+pub Loop-opening : (s : Scenario) → LoopRepresents s 0 (hub_at_opening s) (map (actor_at_opening s) (actors_of s))
 unfolding status_after
 Loop-opening s = record {
   scenario = refl;
   few = omega arith;
-  acting = whos-opening s (acting_of s);
-  level = level-opening s (acting_of s);
-  jobs = jobs-opening s (acting_of s);
-  bound = let none = free-opening s (acting_of s) in omega (arith, none);
+  acting = whos-opening s (actors_of s);
+  level = level-opening s (actors_of s);
+  jobs = jobs-opening s (actors_of s);
+  bound = let none = free-opening s (actors_of s) in omega (arith, none);
   world = world_opening s;
   going = refl;
   stand = record { entries = refl; logs = refl; places = places-opening s };
@@ -135,7 +132,7 @@ abbrev IsAt : ℕ → HubState → List ActorState → Type 0
 IsAt taken hub actors = LoopRepresents hub.scenario taken hub actors
 
 -- who an actor of the loop is
-pub who-at : (s : Scenario) (actors : List ActorState) (i : ℕ) (a : ActorState) → map who_of actors ≡ acting_of s → slice_get actors i ≡ Some a → slice_get (acting_of s) i ≡ Some a.who
+pub who-at : (s : Scenario) (actors : List ActorState) (i : ℕ) (a : ActorState) → map who_of actors ≡ actors_of s → slice_get actors i ≡ Some a → slice_get (actors_of s) i ≡ Some a.who
 who-at s actors i a acting there =
     ap (λ (whos : List Who). slice_get whos i) (sym acting) ∙ (slice_get-map who_of actors i ∙ ap (λ (o : Option ActorState). option_map who_of o) there)
 
@@ -144,41 +141,36 @@ stands-in : (hub : HubState) (w : World) (actors : List ActorState) (i : ℕ) (a
 stands-in hub w actors i a stand there = record { entries = stand.entries; logs = stand.logs; place = stand.places i a there }
 
 -- who is named has the turn in the World
-named-turn : (hub : HubState) (w : World) (actors : List ActorState) (turner : Turner) (who : Who) → IsSupported hub.scenario → AreIn w hub actors → map who_of actors ≡ acting_of hub.scenario
+named-turn : (hub : HubState) (w : World) (actors : List ActorState) (turner : Turner) (who : Who) → AreIn w hub actors → map who_of actors ≡ actors_of hub.scenario
     → IsNamed hub actors turner who → turn_of hub.scenario w turner ≡ Some who
-named-turn hub w actors Default who unasked stand acting named = turn-unasked hub w actors unasked stand acting ∙ named
-named-turn hub w actors (Port_turn p) who unasked stand acting named = ap Some (sym named)
-named-turn hub w actors (Clock_turn c) who unasked stand acting named = ap Some (sym named)
-named-turn hub w actors Queries_turn who unasked stand acting named = ap Some (sym named)
+named-turn hub w actors Default who stand acting named = turn-all hub w actors stand acting ∙ named
+named-turn hub w actors (Port_turn p) who stand acting named = ap Some (sym named)
+named-turn hub w actors (Clock_turn c) who stand acting named = ap Some (sym named)
+named-turn hub w actors Queries_turn who stand acting named = ap Some (sym named)
 
 -- whom an index is of
 actor-of : (actors : List ActorState) (i : ℕ) (who : Who) → slice_get (map who_of actors) i ≡ Some who → (a : ActorState) × (slice_get actors i ≡ Some a) × (who_of a ≡ who)
 actor-of actors i who there = option_map-some who_of (slice_get actors i) who (sym (slice_get-map who_of actors i) ∙ there)
 
 -- an actor that is idle has no step in the World
-idle-none : (hub : HubState) (w : World) (actors : List ActorState) (i : ℕ) (who : Who) → AreIn w hub actors → map who_of actors ≡ acting_of hub.scenario → AreJobsDue hub.scenario actors
-    → slice_get (acting_of hub.scenario) i ≡ Some who → IsIdle hub actors who → step_of hub.scenario w who ≡ None
+idle-none : (hub : HubState) (w : World) (actors : List ActorState) (i : ℕ) (who : Who) → AreIn w hub actors → map who_of actors ≡ actors_of hub.scenario → AreJobsDue hub.scenario actors
+    → slice_get (actors_of hub.scenario) i ≡ Some who → IsIdle hub actors who → step_of hub.scenario w who ≡ None
 idle-none hub w actors i who stand acting jobs there idle =
     let (a, at, is) = actor-of actors i who (ap (λ (whos : List Who). slice_get whos i) acting ∙ there) in
     subst (λ (x : Who). step_of hub.scenario w x ≡ None) is (step-none hub w a (stands-in hub w actors i a stand at) (jobs i a at) (idle i a at is))
 
--- nobody asks
-query-stays : (hub : HubState) (w : World) → IsSupported hub.scenario → step_of hub.scenario w Queries ≡ None
-query-stays hub w none =
-    let gone : query_input hub.scenario (state_of hub.scenario w.entries) ≡ None = ap (λ (qs : List Asked). slice_get qs (state_of hub.scenario w.entries).queries) none in
-    rw gone refl
-
 -- where none has a turn that is named there is no step
-no-turn : (hub : HubState) (w : World) (actors : List ActorState) (turner : Turner) → IsSupported hub.scenario → AreIn w hub actors → map who_of actors ≡ acting_of hub.scenario → AreJobsDue hub.scenario actors
+no-turn : (hub : HubState) (w : World) (actors : List ActorState) (turner : Turner) → AreIn w hub actors → map who_of actors ≡ actors_of hub.scenario → AreJobsDue hub.scenario actors
     → IsTurnerOf (length hub.scenario.clocks) (length hub.scenario.ports) turner → HasNoTurn hub actors turner → option_and_then (step_of hub.scenario w) (turn_of hub.scenario w turner) ≡ None
-no-turn hub w actors Default unasked stand acting jobs there none = rw (turn-unasked hub w actors unasked stand acting ∙ none) refl
-no-turn hub w actors (Port_turn zero) unasked stand acting jobs there none = let first = there.0 in absurd (omega (arith, first))
-no-turn hub w actors (Port_turn (suc i)) unasked stand acting jobs there none =
+no-turn hub w actors Default stand acting jobs there none = rw (turn-all hub w actors stand acting ∙ none) refl
+no-turn hub w actors (Port_turn zero) stand acting jobs there none = let first = there.0 in absurd (omega (arith, first))
+no-turn hub w actors (Port_turn (suc i)) stand acting jobs there none =
     let last = there.1 in
     idle-none hub w actors i (Port (suc i)) stand acting jobs (acting-port hub.scenario i (omega (arith, last))) none
-no-turn hub w actors (Clock_turn c) unasked stand acting jobs there none =
+no-turn hub w actors (Clock_turn c) stand acting jobs there none =
     idle-none hub w actors (length hub.scenario.ports + c) (Follower c) stand acting jobs (acting-follower hub.scenario c there) none
-no-turn hub w actors Queries_turn unasked stand acting jobs there none = query-stays hub w unasked
+no-turn hub w actors Queries_turn stand acting jobs there none =
+    idle-none hub w actors (length hub.scenario.ports + follower_count hub.scenario) Queries stand acting jobs (acting-queries hub.scenario) none
 
 -- the World behind a turn, by whose it is
 abbrev end_at : Scenario → ℕ → World → Option Turner → End
@@ -201,11 +193,11 @@ turn-status hub taken actors turner at is =
     ∙ ap (λ (t : Turner). take_step at.world (end_at s taken at.world (turner_at s.turns taken)) (option_and_then (step_of s at.world) (turn_of s at.world t))) is))
 
 -- where the step of the actor whose turn it is leads, the World is behind the turn
-turn-leads : (hub : HubState) (taken : ℕ) (actors : List ActorState) (turner : Turner) (i : ℕ) (turn : IsTurnOf hub actors turner i) (next : World → Status) → IsSupported hub.scenario → (at : IsAt taken hub actors) → IsTurnerAt hub.scenario taken turner
+turn-leads : (hub : HubState) (taken : ℕ) (actors : List ActorState) (turner : Turner) (i : ℕ) (turn : IsTurnOf hub actors turner i) (next : World → Status) → (at : IsAt taken hub actors) → IsTurnerAt hub.scenario taken turner
     → StepLeadsTo hub turn.at.actor next → status_after hub.scenario (taken + 1) ≡ next at.world
-turn-leads hub taken actors turner i turn next unasked at is leads =
+turn-leads hub taken actors turner i turn next at is leads =
     let s = hub.scenario in
-    let named = named-turn hub at.world actors turner turn.at.actor.who unasked at.stand at.acting turn.named in
+    let named = named-turn hub at.world actors turner turn.at.actor.who at.stand at.acting turn.named in
     turn-status hub taken actors turner at is
     ∙ (ap (λ (o : Option Who). take_step at.world (end_at s taken at.world (turner_at s.turns taken)) (option_and_then (step_of s at.world) o)) named
     ∙ leads at.world (end_at s taken at.world (turner_at s.turns taken)) (stands-in hub at.world actors i turn.at.actor at.stand turn.at.there))
@@ -241,7 +233,7 @@ other-after : (w : World) (new : HubState) (b x : ActorState) → is_same_actor 
 other-after w new b x differ there = placed-other (record w { entries = new.entries; logs = new.logs }) b.who x.who b.place differ ∙ there
 
 -- another actor of the loop is another
-who-apart : (s : Scenario) (actors : List ActorState) (i j : ℕ) (a x : ActorState) → map who_of actors ≡ acting_of s → slice_get actors i ≡ Some a → slice_get actors j ≡ Some x → j ≢ i → is_same_actor x.who a.who ≡ false
+who-apart : (s : Scenario) (actors : List ActorState) (i j : ℕ) (a x : ActorState) → map who_of actors ≡ actors_of s → slice_get actors i ≡ Some a → slice_get actors j ≡ Some x → j ≢ i → is_same_actor x.who a.who ≡ false
 who-apart s actors i j a x acting there other differ = acting-apart s j i x.who a.who (who-at s actors j x acting other) (who-at s actors i a acting there) differ
 
 stand-after : (hub new : HubState) (taken : ℕ) (actors : List ActorState) (i : ℕ) (at : IsDueAt hub actors i) (b : ActorState) (loop : IsAt taken hub actors) → StepYields hub at.actor new b
@@ -272,9 +264,9 @@ fewer-after hub new actors i a b there less =
     less-of (4 * (ENTRIES_MAX - length hub.entries)) (4 * (ENTRIES_MAX - length new.entries)) (free_steps_of actors) (free_steps_of (slice_set actors i b)) (f a) (f b)
     (subst (λ n. free_steps_of (slice_set actors i b) + n ≡ free_steps_of actors + f b) at sums) less
 
-step-by : (hub new : HubState) (taken : ℕ) (actors : List ActorState) (turner : Turner) (i : ℕ) (turn : IsTurnOf hub actors turner i) (b : ActorState) → IsSupported hub.scenario → IsAt taken hub actors → IsTurnerAt hub.scenario taken turner
+step-by : (hub new : HubState) (taken : ℕ) (actors : List ActorState) (turner : Turner) (i : ℕ) (turn : IsTurnOf hub actors turner i) (b : ActorState) → IsAt taken hub actors → IsTurnerAt hub.scenario taken turner
     → StepYields hub turn.at.actor new b → LoopRepresents hub.scenario (taken + 1) new (slice_set actors i b)
-step-by hub new taken actors turner i turn b unasked at is made =
+step-by hub new taken actors turner i turn b at is made =
     let s = hub.scenario in
     let a = turn.at.actor in
     let less = fewer-after hub new actors i a b turn.at.there made.fewer in
@@ -290,94 +282,94 @@ step-by hub new taken actors turner i turn b unasked at is made =
           (subst (λ (t : Scenario). IsJobDue t b.place) (made.actor.scenario ∙ (at.level i a turn.at.there).scenario) made.job);
       bound = omega (arith, bound, less);
       world = world_with at.world new b;
-      going = turn-leads hub taken actors turner i turn (λ (w : World). Going (world_with w new b)) unasked at is made.going;
+      going = turn-leads hub taken actors turner i turn (λ (w : World). Going (world_with w new b)) at is made.going;
       stand = stand-after hub new taken actors i turn.at b at made;
     }
 
 -- each step keeps to the World
-pub Loop-step : (s : Scenario) (taken : ℕ) (hub new : HubState) (actors : List ActorState) (turner : Turner) (i : ℕ) (b : ActorState) (turn : IsTurnOf hub actors turner i) → IsSupported s → LoopRepresents s taken hub actors → IsTurnerAt s taken turner
+pub Loop-step : (s : Scenario) (taken : ℕ) (hub new : HubState) (actors : List ActorState) (turner : Turner) (i : ℕ) (b : ActorState) (turn : IsTurnOf hub actors turner i) → LoopRepresents s taken hub actors → IsTurnerAt s taken turner
     → StepYields hub turn.at.actor new b → LoopRepresents s (taken + 1) new (slice_set actors i b)
-Loop-step s taken hub new actors turner i b turn unasked at is made =
-    let P : Scenario → Type 0 = λ (t : Scenario). IsSupported t → LoopRepresents t taken hub actors → IsTurnerAt t taken turner → LoopRepresents t (taken + 1) new (slice_set actors i b) in
-    let by : P s = subst P at.scenario (λ q l m. step-by hub new taken actors turner i turn b q l m made) in
-    by unasked at is
+Loop-step s taken hub new actors turner i b turn at is made =
+    let P : Scenario → Type 0 = λ (t : Scenario). LoopRepresents t taken hub actors → IsTurnerAt t taken turner → LoopRepresents t (taken + 1) new (slice_set actors i b) in
+    let by : P s = subst P at.scenario (λ l m. step-by hub new taken actors turner i turn b l m made) in
+    by at is
 
 -- ---- the ends
 
 -- the World behind a turn that has no step
-none-status : (hub : HubState) (taken : ℕ) (actors : List ActorState) (turner : Turner) → IsSupported hub.scenario → (at : IsAt taken hub actors) → IsTurnerAt hub.scenario taken turner
+none-status : (hub : HubState) (taken : ℕ) (actors : List ActorState) (turner : Turner) → (at : IsAt taken hub actors) → IsTurnerAt hub.scenario taken turner
     → IsTurnerOf (length hub.scenario.clocks) (length hub.scenario.ports) turner → HasNoTurn hub actors turner
     → status_after hub.scenario (taken + 1) ≡ Ended (end_at hub.scenario taken at.world (turner_at hub.scenario.turns taken))
-none-status hub taken actors turner unasked at is there none =
+none-status hub taken actors turner at is there none =
     turn-status hub taken actors turner at is
     ∙ ap (λ (step : Option Step). take_step at.world (end_at hub.scenario taken at.world (turner_at hub.scenario.turns taken)) step)
-    (no-turn hub at.world actors turner unasked at.stand at.acting at.jobs there none)
+    (no-turn hub at.world actors turner at.stand at.acting at.jobs there none)
 
-none-by : (hub : HubState) (taken : ℕ) (actors : List ActorState) → IsSupported hub.scenario → IsAt taken hub actors → turner_at hub.scenario.turns taken ≡ None → HasNoTurn hub actors Default
+none-by : (hub : HubState) (taken : ℕ) (actors : List ActorState) → IsAt taken hub actors → turner_at hub.scenario.turns taken ≡ None → HasNoTurn hub actors Default
     → (w : World) × (w.entries ≡ hub.entries) × (w.logs ≡ hub.logs) × IsWorld hub.scenario (run_of hub.scenario w)
-none-by hub taken actors unasked at past none = (
+none-by hub taken actors at past none = (
   at.world,
   at.stand.entries,
   at.stand.logs,
   (
     taken + 1,
-    none-status hub taken actors Default unasked at (ap turner_or_default past) tt none
+    none-status hub taken actors Default at (ap turner_or_default past) tt none
         ∙ ap (λ (line : Option Turner). Ended (end_at hub.scenario taken at.world line)) past,
   ),
 )
 
 -- where nobody has a step behind the schedule the run is that of the World
-pub Loop-done : (s : Scenario) (taken : ℕ) (hub : HubState) (actors : List ActorState) → IsSupported s → LoopRepresents s taken hub actors → turner_at s.turns taken ≡ None → HasNoTurn hub actors Default
+pub Loop-done : (s : Scenario) (taken : ℕ) (hub : HubState) (actors : List ActorState) → LoopRepresents s taken hub actors → turner_at s.turns taken ≡ None → HasNoTurn hub actors Default
     → (w : World) × (w.entries ≡ hub.entries) × (w.logs ≡ hub.logs) × IsWorld s (run_of s w)
-Loop-done s taken hub actors unasked at past none =
-    let P : Scenario → Type 0 = λ (t : Scenario). IsSupported t → LoopRepresents t taken hub actors → turner_at t.turns taken ≡ None → (w : World) × (w.entries ≡ hub.entries) × (w.logs ≡ hub.logs) × IsWorld t (run_of t w) in
-    let by : P s = subst P at.scenario (λ q l m. none-by hub taken actors q l m none) in
-    by unasked at past
+Loop-done s taken hub actors at past none =
+    let P : Scenario → Type 0 = λ (t : Scenario). LoopRepresents t taken hub actors → turner_at t.turns taken ≡ None → (w : World) × (w.entries ≡ hub.entries) × (w.logs ≡ hub.logs) × IsWorld t (run_of t w) in
+    let by : P s = subst P at.scenario (λ l m. none-by hub taken actors l m none) in
+    by at past
 
-stop-by : (hub : HubState) (taken : ℕ) (actors : List ActorState) (turner : Turner) → IsSupported hub.scenario → IsAt taken hub actors → turner_at hub.scenario.turns taken ≡ Some turner
+stop-by : (hub : HubState) (taken : ℕ) (actors : List ActorState) (turner : Turner) → IsAt taken hub actors → turner_at hub.scenario.turns taken ≡ Some turner
     → IsTurnerOf (length hub.scenario.clocks) (length hub.scenario.ports) turner → HasNoTurn hub actors turner → IsEnd hub.scenario (Not_due (taken + 1))
-stop-by hub taken actors turner unasked at line there none = (
+stop-by hub taken actors turner at line there none = (
   taken + 1,
-  none-status hub taken actors turner unasked at (ap turner_or_default line) there none
+  none-status hub taken actors turner at (ap turner_or_default line) there none
       ∙ ap (λ (o : Option Turner). Ended (end_at hub.scenario taken at.world o)) line,
 )
 
 -- where the schedule names one who has no step the scenario ends at that turn
-pub Loop-stops : (s : Scenario) (taken : ℕ) (hub : HubState) (actors : List ActorState) (turner : Turner) → IsSupported s → LoopRepresents s taken hub actors → turner_at s.turns taken ≡ Some turner
+pub Loop-stops : (s : Scenario) (taken : ℕ) (hub : HubState) (actors : List ActorState) (turner : Turner) → LoopRepresents s taken hub actors → turner_at s.turns taken ≡ Some turner
     → IsTurnerOf (length s.clocks) (length s.ports) turner → HasNoTurn hub actors turner → IsEnd s (Not_due (taken + 1))
-Loop-stops s taken hub actors turner unasked at line there none =
-    let P : Scenario → Type 0 = λ (t : Scenario). IsSupported t → LoopRepresents t taken hub actors → turner_at t.turns taken ≡ Some turner → IsTurnerOf (length t.clocks) (length t.ports) turner → IsEnd t (Not_due (taken + 1)) in
-    let by : P s = subst P at.scenario (λ q l m k. stop-by hub taken actors turner q l m k none) in
-    by unasked at line there
+Loop-stops s taken hub actors turner at line there none =
+    let P : Scenario → Type 0 = λ (t : Scenario). LoopRepresents t taken hub actors → turner_at t.turns taken ≡ Some turner → IsTurnerOf (length t.clocks) (length t.ports) turner → IsEnd t (Not_due (taken + 1)) in
+    let by : P s = subst P at.scenario (λ l m k. stop-by hub taken actors turner l m k none) in
+    by at line there
 
-full-by : (hub : HubState) (taken : ℕ) (actors : List ActorState) (turner : Turner) (i : ℕ) (turn : IsTurnOf hub actors turner i) → IsSupported hub.scenario → IsAt taken hub actors → IsTurnerAt hub.scenario taken turner
+full-by : (hub : HubState) (taken : ℕ) (actors : List ActorState) (turner : Turner) (i : ℕ) (turn : IsTurnOf hub actors turner i) → IsAt taken hub actors → IsTurnerAt hub.scenario taken turner
     → IsStepError hub turn.at.actor Too_many → IsEnd hub.scenario Events
-full-by hub taken actors turner i turn unasked at is full = (taken + 1, turn-leads hub taken actors turner i turn (λ (w : World). Ended Events) unasked at is full)
+full-by hub taken actors turner i turn at is full = (taken + 1, turn-leads hub taken actors turner i turn (λ (w : World). Ended Events) at is full)
 
 -- where the hub is full the scenario ends at one event too many
-pub Loop-full : (s : Scenario) (taken : ℕ) (hub : HubState) (actors : List ActorState) (turner : Turner) (i : ℕ) (turn : IsTurnOf hub actors turner i) → IsSupported s → LoopRepresents s taken hub actors → IsTurnerAt s taken turner
+pub Loop-full : (s : Scenario) (taken : ℕ) (hub : HubState) (actors : List ActorState) (turner : Turner) (i : ℕ) (turn : IsTurnOf hub actors turner i) → LoopRepresents s taken hub actors → IsTurnerAt s taken turner
     → IsStepError hub turn.at.actor Too_many → IsEnd s Events
-Loop-full s taken hub actors turner i turn unasked at is full =
-    let P : Scenario → Type 0 = λ (t : Scenario). IsSupported t → LoopRepresents t taken hub actors → IsTurnerAt t taken turner → IsEnd t Events in
-    let by : P s = subst P at.scenario (λ q l m. full-by hub taken actors turner i turn q l m full) in
-    by unasked at is
+Loop-full s taken hub actors turner i turn at is full =
+    let P : Scenario → Type 0 = λ (t : Scenario). LoopRepresents t taken hub actors → IsTurnerAt t taken turner → IsEnd t Events in
+    let by : P s = subst P at.scenario (λ l m. full-by hub taken actors turner i turn l m full) in
+    by at is
 
 -- ---- what the code asks
 
 -- the reason why an actor took no step is one of the scenario
-turn-error : (s : Scenario) (taken : ℕ) (hub : HubState) (actors : List ActorState) (turner : Turner) (i : ℕ) (turn : IsTurnOf hub actors turner i) (error : ReplayError) → IsSupported s → LoopRepresents s taken hub actors → IsTurnerAt s taken turner
+turn-error : (s : Scenario) (taken : ℕ) (hub : HubState) (actors : List ActorState) (turner : Turner) (i : ℕ) (turn : IsTurnOf hub actors turner i) (error : ReplayError) → LoopRepresents s taken hub actors → IsTurnerAt s taken turner
     → IsStepError hub turn.at.actor error → IsReplayError s error
-turn-error s taken hub actors turner i turn Lacks unasked at line is = tt
-turn-error s taken hub actors turner i turn Too_many unasked at line is = Loop-full s taken hub actors turner i turn unasked at line is
-turn-error s taken hub actors turner i turn (Has_no_step t) unasked at line is = absurd is
+turn-error s taken hub actors turner i turn Lacks at line is = tt
+turn-error s taken hub actors turner i turn Too_many at line is = Loop-full s taken hub actors turner i turn at line is
+turn-error s taken hub actors turner i turn (Has_no_step t) at line is = absurd is
 
 -- a turn that was taken keeps to the World
-pub taken-step : (s : Scenario) (taken : ℕ) (hub new : HubState) (actors after : List ActorState) (turner : Turner) (i : ℕ) → IsTurnOf hub actors turner i → IsSupported s → LoopRepresents s taken hub actors → IsTurnerAt s taken turner
+pub taken-step : (s : Scenario) (taken : ℕ) (hub new : HubState) (actors after : List ActorState) (turner : Turner) (i : ℕ) → IsTurnOf hub actors turner i → LoopRepresents s taken hub actors → IsTurnerAt s taken turner
     → TurnYields hub actors i new after → LoopRepresents s (taken + 1) new after
-taken-step s taken hub new actors after turner i turn unasked at line made =
+taken-step s taken hub new actors after turner i turn at line made =
     let same : made.actor ≡ turn.at.actor = same_Some made.actor turn.at.actor (sym made.there ∙ turn.at.there) in
     subst (λ (xs : List ActorState). LoopRepresents s (taken + 1) new xs) (sym made.others)
-    (Loop-step s taken hub new actors turner i made.after turn unasked at line (subst (λ (a : ActorState). StepYields hub a new made.after) same made.step))
+    (Loop-step s taken hub new actors turner i made.after turn at line (subst (λ (a : ActorState). StepYields hub a new made.after) same made.step))
 
 -- and leaves fewer steps
 pub taken-fewer : (hub new : HubState) (actors after : List ActorState) (i : ℕ) → TurnYields hub actors i new after → steps_left new (free_steps_of after) < steps_left hub (free_steps_of actors)
@@ -386,15 +378,15 @@ taken-fewer hub new actors after i made =
     (fewer-after hub new actors i made.actor made.after made.there made.step.fewer)
 
 -- a turn that was not taken says how the scenario ends
-pub taken-error : (s : Scenario) (taken : ℕ) (hub : HubState) (actors : List ActorState) (turner : Turner) (i : ℕ) (error : ReplayError) → IsTurnOf hub actors turner i → IsSupported s → LoopRepresents s taken hub actors → IsTurnerAt s taken turner
+pub taken-error : (s : Scenario) (taken : ℕ) (hub : HubState) (actors : List ActorState) (turner : Turner) (i : ℕ) (error : ReplayError) → IsTurnOf hub actors turner i → LoopRepresents s taken hub actors → IsTurnerAt s taken turner
     → IsTurnError hub actors i error → IsReplayError s error
-taken-error s taken hub actors turner i error turn unasked at line is = turn-error s taken hub actors turner i turn error unasked at line (is turn.at.actor turn.at.there)
+taken-error s taken hub actors turner i error turn at line is = turn-error s taken hub actors turner i turn error at line (is turn.at.actor turn.at.there)
 
 -- the run that the hub parts with is that of the World
-finished : (s : Scenario) (hub : HubState) (actors : List ActorState) (entries : List Entry) (logs : List Log) → IsSupported s → IsUnscheduledLoop s hub actors → HasNoTurn hub actors Default
+finished : (s : Scenario) (hub : HubState) (actors : List ActorState) (entries : List Entry) (logs : List Log) → IsUnscheduledLoop s hub actors → HasNoTurn hub actors Default
     → entries ≡ reverse hub.entries → logs ≡ logs_from 0 hub.scenario.clocks hub.logs → IsWorld s (record { entries = entries; logs = logs })
-finished s hub actors entries logs unasked at none entries_are logs_are =
-    let (w, has, logged, world) = Loop-done s at.taken hub actors unasked at.loop (at.past at.taken (omega arith)) none in
+finished s hub actors entries logs at none entries_are logs_are =
+    let (w, has, logged, world) = Loop-done s at.taken hub actors at.loop (at.past at.taken (omega arith)) none in
     let made : List Entry → List Log → Run = λ (es : List Entry) (ls : List Log). record { entries = es; logs = ls } in
     let entries_of_w : entries ≡ reverse w.entries = entries_are ∙ ap reverse (sym has) in
     let logs_of_w : logs ≡ logs_from 0 s.clocks w.logs =
@@ -403,15 +395,15 @@ finished s hub actors entries logs unasked at none entries_are logs_are =
     subst (IsWorld s) (sym same) world
 
 -- so is the run that is assembled
-pub finished-run : (s : Scenario) (hub : HubState) (actors : List ActorState) (entries : List Entry) (logs : List Log) (run : Run) → IsSupported s → IsUnscheduledLoop s hub actors → HasNoTurn hub actors Default
+pub finished-run : (s : Scenario) (hub : HubState) (actors : List ActorState) (entries : List Entry) (logs : List Log) (run : Run) → IsUnscheduledLoop s hub actors → HasNoTurn hub actors Default
     → entries ≡ reverse hub.entries → logs ≡ logs_from 0 hub.scenario.clocks hub.logs → run ≡ record { entries = entries; logs = logs } → IsWorld s run
-finished-run s hub actors entries logs run unasked at none entries_are logs_are run_is = subst (IsWorld s) (sym run_is) (finished s hub actors entries logs unasked at none entries_are logs_are)
+finished-run s hub actors entries logs run at none entries_are logs_are run_is = subst (IsWorld s) (sym run_is) (finished s hub actors entries logs at none entries_are logs_are)
 
 -- and it is legal
-pub finished-legal : (s : Scenario) (hub : HubState) (actors : List ActorState) (entries : List Entry) (logs : List Log) (run : Run) → IsScenario s → IsSupported s → IsUnscheduledLoop s hub actors → HasNoTurn hub actors Default
+pub finished-legal : (s : Scenario) (hub : HubState) (actors : List ActorState) (entries : List Entry) (logs : List Log) (run : Run) → IsScenario s → IsUnscheduledLoop s hub actors → HasNoTurn hub actors Default
     → entries ≡ reverse hub.entries → logs ≡ logs_from 0 hub.scenario.clocks hub.logs → run ≡ record { entries = entries; logs = logs } → IsLegal s run
-finished-legal s hub actors entries logs run rules unasked at none entries_are logs_are run_is =
-    run-legal s rules (stays-right s rules) run (finished-run s hub actors entries logs run unasked at none entries_are logs_are run_is)
+finished-legal s hub actors entries logs run rules at none entries_are logs_are run_is =
+    run-legal s rules (stays-right s rules) run (finished-run s hub actors entries logs run at none entries_are logs_are run_is)
 
 -- ---- whose turn was found
 
@@ -459,5 +451,5 @@ lent-error hub actors i x error at is cause = λ a there.
 
 -- ---- the loop
 
-pub loop-begins : (s : Scenario) (hub : HubState) (actors : List ActorState) → hub ≡ hub_at_opening s → actors ≡ map (actor_at_opening s) (acting_of s) → LoopRepresents s 0 hub actors
+pub loop-begins : (s : Scenario) (hub : HubState) (actors : List ActorState) → hub ≡ hub_at_opening s → actors ≡ map (actor_at_opening s) (actors_of s) → LoopRepresents s 0 hub actors
 loop-begins s hub actors hub_is actors_are = rw (hub_is, actors_are) (Loop-opening s)

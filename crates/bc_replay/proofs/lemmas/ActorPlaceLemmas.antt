@@ -18,7 +18,7 @@ use Rattle.bc_history.specs.Run.World.{Of_follower, Of_port, Of_queries, Place, 
 use Rattle.bc_history.proofs.lemmas.CoreInvariantLemmas.{port_at-at_port, port_at-elsewhere, slice_get-changed_at, slice_get-changed_elsewhere}
 use Rattle.bc_history.specs.declared.scenario.Scenario.{Scenario}
 use Rattle.bc_steps.specs.ActorView.{ActorState, IsPlaceOf}
-use Rattle.bc_replay.specs.ActorLoop.{acting_of, actor_at_opening}
+use Rattle.bc_replay.specs.ActorLoop.{actor_at_opening}
 
 -- ---- two actors
 
@@ -109,14 +109,47 @@ pub record IsFollowerAt (s : Scenario) (i : ℕ) (who : Who) : Type 0 where
   pub at : i ≡ length s.ports + clock
   pub there : clock < follower_count s
 
-pub acting-at : (s : Scenario) (i : ℕ) (who : Who) → slice_get (acting_of s) i ≡ Some who → IsPortAt s i who ⊎ IsFollowerAt s i who
-acting-at s i who there = elim (split-at (map (λ p. Port p) (range_with_len 1 (length s.ports))) (map (λ c. Follower c) (range_with_len 0 (follower_count s))) i who there) [
+-- or the queries, behind all of them
+pub record IsQueriesAt (s : Scenario) (i : ℕ) (who : Who) : Type 0 where
+  pub is : who ≡ Queries
+  pub at : i ≡ length s.ports + follower_count s
+
+-- who acts by index i
+abbrev pub ActsAt : Scenario → ℕ → Who → Type 0
+ActsAt s i who = (IsPortAt s i who ⊎ IsFollowerAt s i who) ⊎ IsQueriesAt s i who
+
+-- ports and followers
+abbrev steerers_of : Scenario → List Who
+steerers_of s = map (λ p. Port p) (range_with_len 1 (length s.ports)) ++ map (λ c. Follower c) (range_with_len 0 (follower_count s))
+
+steerers-length : (s : Scenario) → length (steerers_of s) ≡ length s.ports + follower_count s
+steerers-length s =
+    length-append (map (λ p. Port p) (range_with_len 1 (length s.ports))) (map (λ c. Follower c) (range_with_len 0 (follower_count s)))
+    ∙ (ap (λ n. n + length (map (λ c. Follower c) (range_with_len 0 (follower_count s)))) (ports-long s)
+    ∙ ap (λ n. length s.ports + n) (length-map-range_with_len (λ c. Follower c) 0 (follower_count s)))
+
+steerer-at : (s : Scenario) (i : ℕ) (who : Who) → slice_get (steerers_of s) i ≡ Some who → IsPortAt s i who ⊎ IsFollowerAt s i who
+steerer-at s i who there = elim (split-at (map (λ p. Port p) (range_with_len 1 (length s.ports))) (map (λ c. Follower c) (range_with_len 0 (follower_count s))) i who there) [
   | inl first ↦ let at = at-range (λ p. Port p) 1 (length s.ports) i who first in inl (record { is = at.0; there = at.1 })
   | inr (j, at, second) ↦
       let found = at-range (λ c. Follower c) 0 (follower_count s) j who second in
       let none : 0 + j ≡ j = omega arith in
       let long = ports-long s in
       inr (record { clock = j; is = found.0 ∙ ap (λ c. Follower c) none; at = omega (arith, at, long); there = found.1 })
+]
+
+alone-at : (j : ℕ) (who : Who) → slice_get (Queries ∷ []) j ≡ Some who → (who ≡ Queries) × (j ≡ 0)
+alone-at zero who there = let same : Queries ≡ who = cc in (sym same, refl)
+alone-at (suc j) who there = cc
+
+pub acting-at : (s : Scenario) (i : ℕ) (who : Who) → slice_get (actors_of s) i ≡ Some who → ActsAt s i who
+acting-at s i who there = elim (split-at (steerers_of s) (Queries ∷ []) i who there) [
+  | inl first ↦ inl (steerer-at s i who first)
+  | inr (j, at, second) ↦
+      let last = alone-at j who second in
+      let none = last.1 in
+      let long = steerers-length s in
+      inr (record { is = last.0; at = omega (arith, at, long, none) })
 ]
 
 -- an image of a number in a row
@@ -139,33 +172,38 @@ in-second (x ∷ xs) ys zero j who at there = absurd (omega (arith, at))
 in-second (x ∷ xs) ys (suc i) j who at there = in-second xs ys i j who (omega (arith, at)) there
 
 -- where each port is among those who act
-pub acting-port : (s : Scenario) (i : ℕ) → i < length s.ports → slice_get (acting_of s) i ≡ Some (Port (suc i))
+pub acting-port : (s : Scenario) (i : ℕ) → i < length s.ports → slice_get (actors_of s) i ≡ Some (Port (suc i))
 acting-port s i lt =
     let next : 1 + i ≡ suc i = omega arith in
-    in-first (map (λ p. Port p) (range_with_len 1 (length s.ports))) (map (λ c. Follower c) (range_with_len 0 (follower_count s))) i (Port (suc i))
-    (in-range (λ p. Port p) 1 (length s.ports) i lt ∙ ap (λ p. Some (Port p)) next)
+    in-first (steerers_of s) (Queries ∷ []) i (Port (suc i))
+    (in-first (map (λ p. Port p) (range_with_len 1 (length s.ports))) (map (λ c. Follower c) (range_with_len 0 (follower_count s))) i (Port (suc i))
+    (in-range (λ p. Port p) 1 (length s.ports) i lt ∙ ap (λ p. Some (Port p)) next))
 
 -- where there are two clocks or more each has a follower
 pub follower-many : (s : Scenario) → 2 ≤ length s.clocks → follower_count s ≡ length s.clocks
 follower-many s many = let enough : leb 2 (length s.clocks) ≡ true = le-leb 2 (length s.clocks) many in rw enough refl
 
 -- and each follower
-pub acting-follower : (s : Scenario) (c : ℕ) → (2 ≤ length s.clocks) × (c < length s.clocks) → slice_get (acting_of s) (length s.ports + c) ≡ Some (Follower c)
+pub acting-follower : (s : Scenario) (c : ℕ) → (2 ≤ length s.clocks) × (c < length s.clocks) → slice_get (actors_of s) (length s.ports + c) ≡ Some (Follower c)
 acting-follower s c there =
     let all = follower-many s there.0 in
     let lt : c < follower_count s = subst (λ n. c < n) (sym all) there.1 in
     let none : 0 + c ≡ c = omega arith in
     let ports = map (λ p. Port p) (range_with_len 1 (length s.ports)) in
     let at : length s.ports + c ≡ length ports + c = ap (λ n. n + c) (sym (ports-long s)) in
-    in-second ports (map (λ d. Follower d) (range_with_len 0 (follower_count s))) (length s.ports + c) c (Follower c) at
-    (in-range (λ d. Follower d) 0 (follower_count s) c lt ∙ ap (λ d. Some (Follower d)) none)
+    in-first (steerers_of s) (Queries ∷ []) (length s.ports + c) (Follower c)
+    (in-second ports (map (λ d. Follower d) (range_with_len 0 (follower_count s))) (length s.ports + c) c (Follower c) at
+    (in-range (λ d. Follower d) 0 (follower_count s) c lt ∙ ap (λ d. Some (Follower d)) none))
+
+-- and the queries
+pub acting-queries : (s : Scenario) → slice_get (actors_of s) (length s.ports + follower_count s) ≡ Some Queries
+acting-queries s =
+    let long = steerers-length s in
+    in-second (steerers_of s) (Queries ∷ []) (length s.ports + follower_count s) 0 Queries (omega (arith, long)) refl
 
 -- how many act
-pub acting-length : (s : Scenario) → length (acting_of s) ≡ length s.ports + follower_count s
-acting-length s =
-    length-append (map (λ p. Port p) (range_with_len 1 (length s.ports))) (map (λ c. Follower c) (range_with_len 0 (follower_count s)))
-    ∙ (ap (λ n. n + length (map (λ c. Follower c) (range_with_len 0 (follower_count s)))) (ports-long s)
-    ∙ ap (λ n. length s.ports + n) (length-map-range_with_len (λ c. Follower c) 0 (follower_count s)))
+pub acting-length : (s : Scenario) → length (actors_of s) ≡ length s.ports + follower_count s + 1
+acting-length s = length-append (steerers_of s) (Queries ∷ []) ∙ ap (λ n. n + 1) (steerers-length s)
 
 -- a port acts
 pub port-acts : (s : Scenario) (i : ℕ) → i < length s.ports → Contains (actors_of s) (Port (i + 1))
@@ -187,37 +225,68 @@ follower-acts s c lt =
     let here : Contains followers (Follower c) = (c, omega (arith, long, lt), get_or-map-range_with_len (λ d. Follower d) 0 (follower_count s) c c (Follower c) lt none) in
     Contains-append_left (ports ++ followers) (Queries ∷ []) (Follower c) (Contains-append_right ports followers (Follower c) here)
 
+-- and so do the queries
+pub queries-act : (s : Scenario) → Contains (actors_of s) Queries
+queries-act s = Contains-append_right (steerers_of s) (Queries ∷ []) Queries (0, omega arith, refl)
+
 numbers-apart : (a b : ℕ) → a ≢ b → eqb a b ≡ false
 numbers-apart a b other = elim (eqb_tells a b) [
   | inl same ↦ absurd (other same.1)
   | inr differ ↦ differ.0
 ]
 
-apart : (s : Scenario) (i j : ℕ) (one other : Who) → IsPortAt s i one ⊎ IsFollowerAt s i one → IsPortAt s j other ⊎ IsFollowerAt s j other → i ≢ j → is_same_actor one other ≡ false
-apart s i j one other (inl first) (inl second) differ = rw (first.is, second.is) (numbers-apart (1 + i) (1 + j) (λ same. differ (omega (arith, same))))
-apart s i j one other (inl first) (inr second) differ = rw (first.is, second.is) refl
-apart s i j one other (inr first) (inl second) differ = rw (first.is, second.is) refl
-apart s i j one other (inr first) (inr second) differ =
+apart : (s : Scenario) (i j : ℕ) (one other : Who) → ActsAt s i one → ActsAt s j other → i ≢ j → is_same_actor one other ≡ false
+apart s i j one other (inl (inl first)) (inl (inl second)) differ = rw (first.is, second.is) (numbers-apart (1 + i) (1 + j) (λ same. differ (omega (arith, same))))
+apart s i j one other (inl (inl first)) (inl (inr second)) differ = rw (first.is, second.is) refl
+apart s i j one other (inl (inl first)) (inr second) differ = rw (first.is, second.is) refl
+apart s i j one other (inl (inr first)) (inl (inl second)) differ = rw (first.is, second.is) refl
+apart s i j one other (inl (inr first)) (inl (inr second)) differ =
     let at = first.at in
     let behind = second.at in
     rw (first.is, second.is) (numbers-apart first.clock second.clock (λ same. differ (omega (arith, same, at, behind))))
+apart s i j one other (inl (inr first)) (inr second) differ = rw (first.is, second.is) refl
+apart s i j one other (inr first) (inl (inl second)) differ = rw (first.is, second.is) refl
+apart s i j one other (inr first) (inl (inr second)) differ = rw (first.is, second.is) refl
+apart s i j one other (inr first) (inr second) differ = absurd (differ (first.at ∙ sym second.at))
 
 -- who acts by two indices are two
-pub acting-apart : (s : Scenario) (i j : ℕ) (one other : Who) → slice_get (acting_of s) i ≡ Some one → slice_get (acting_of s) j ≡ Some other → i ≢ j → is_same_actor one other ≡ false
+pub acting-apart : (s : Scenario) (i j : ℕ) (one other : Who) → slice_get (actors_of s) i ≡ Some one → slice_get (actors_of s) j ≡ Some other → i ≢ j → is_same_actor one other ≡ false
 acting-apart s i j one other first second differ = apart s i j one other (acting-at s i one first) (acting-at s j other second) differ
 
--- ports acts by one index alone
-pub port-index : (s : Scenario) (i p : ℕ) (who : Who) → IsPortAt s i who ⊎ IsFollowerAt s i who → who ≡ Port p → 1 + i ≡ p
-port-index s i p who (inl at) is = let same : Port (1 + i) ≡ Port p = sym at.is ∙ is in cc
-port-index s i p who (inr at) is = let same : Follower at.clock ≡ Port p = sym at.is ∙ is in cc
+-- a port acts by one index alone
+pub port-index : (s : Scenario) (i p : ℕ) (who : Who) → ActsAt s i who → who ≡ Port p → 1 + i ≡ p
+port-index s i p who (inl (inl at)) is = let same : Port (1 + i) ≡ Port p = sym at.is ∙ is in cc
+port-index s i p who (inl (inr at)) is = let same : Follower at.clock ≡ Port p = sym at.is ∙ is in cc
+port-index s i p who (inr at) is = let same : Queries ≡ Port p = sym at.is ∙ is in cc
 
 -- and so does a follower
-pub follower-index : (s : Scenario) (i c : ℕ) (who : Who) → IsPortAt s i who ⊎ IsFollowerAt s i who → who ≡ Follower c → i ≡ length s.ports + c
-follower-index s i c who (inl at) is = let same : Port (1 + i) ≡ Follower c = sym at.is ∙ is in cc
-follower-index s i c who (inr at) is = let same : at.clock ≡ c = follower-same at.clock c (sym at.is ∙ is) in at.at ∙ ap (λ d. length s.ports + d) same
+pub follower-index : (s : Scenario) (i c : ℕ) (who : Who) → ActsAt s i who → who ≡ Follower c → i ≡ length s.ports + c
+follower-index s i c who (inl (inl at)) is = let same : Port (1 + i) ≡ Follower c = sym at.is ∙ is in cc
+follower-index s i c who (inl (inr at)) is = let same : at.clock ≡ c = follower-same at.clock c (sym at.is ∙ is) in at.at ∙ ap (λ d. length s.ports + d) same
   where
     follower-same : (a b : ℕ) → Follower a ≡ Follower b → a ≡ b
     follower-same a b same = cc
+follower-index s i c who (inr at) is = let same : Queries ≡ Follower c = sym at.is ∙ is in cc
+
+-- and so do the queries
+pub queries-index : (s : Scenario) (i : ℕ) (who : Who) → ActsAt s i who → who ≡ Queries → i ≡ length s.ports + follower_count s
+queries-index s i who (inl (inl at)) is = let same : Port (1 + i) ≡ Queries = sym at.is ∙ is in cc
+queries-index s i who (inl (inr at)) is = let same : Follower at.clock ≡ Queries = sym at.is ∙ is in cc
+queries-index s i who (inr at) is = at.at
+
+-- the last one is that of the queries
+pub made-last : (s : Scenario) (n : ℕ) (actors more : List ActorState) (a : ActorState) → n ≡ follower_count s
+    → actors ≡ map (actor_at_opening s) (map (λ p. Port p) (range_with_len 1 (length s.ports))) ++ map (actor_at_opening s) (map (λ c. Follower c) (range_with_len 0 n))
+    → more ≡ actors ++ a ∷ [] → a ≡ actor_at_opening s Queries → more ≡ map (actor_at_opening s) (actors_of s)
+made-last s n actors more a count made_so more_is a_is =
+    let actors_are : actors ≡ map (actor_at_opening s) (map (λ p. Port p) (range_with_len 1 (length s.ports))) ++ map (actor_at_opening s) (map (λ c. Follower c) (range_with_len 0 (follower_count s))) =
+    subst (λ (k : ℕ). actors ≡ map (actor_at_opening s) (map (λ p. Port p) (range_with_len 1 (length s.ports))) ++ map (actor_at_opening s) (map (λ c. Follower c) (range_with_len 0 k))) count made_so in
+    let made = actor_at_opening s in
+    let last : ActorState = made Queries in
+    more_is
+    ∙ ap (λ (x : ActorState). actors ++ x ∷ []) a_is
+    ∙ ap (λ (xs : List ActorState). xs ++ last ∷ []) (actors_are ∙ sym (map-append made (map (λ p. Port p) (range_with_len 1 (length s.ports))) (map (λ c. Follower c) (range_with_len 0 (follower_count s)))))
+    ∙ sym (map-append made (steerers_of s) (Queries ∷ []))
 
 -- one actor more was made
 pub made-more : (s : Scenario) (f : ℕ → Who) (first i next : ℕ) (before actors more : List ActorState) (a : ActorState) → actors ≡ before ++ map (actor_at_opening s) (map f (range_with_len first i)) → more ≡ actors ++ a ∷ []

@@ -1,5 +1,5 @@
 -- A job that was begun goes on before the run ends: its tick is that of the entry that began it.
-use Rattle.std.proofs.Common.{◌≡◌, ℕ, ◌≤◌, Bool, true, leb, le-leb, refl, sym, ap, ◌∙◌, subst, List, [], ◌∷◌, Option, Some, None}
+use Rattle.std.proofs.Common.{◌≡◌, ℕ, ◌≤◌, true, le-leb, refl, sym, subst, List, [], ◌∷◌, Option, Some, None}
 use Rattle.ptp_profile.specs.declared.seats.Held.{Held}
 use Rattle.ptp_profile.specs.declared.timing.Action.{Action}
 use Rattle.ptp_profile.specs.declared.timing.Action.TheVariants.{Unlocked, Jump, Locked}
@@ -12,13 +12,12 @@ use Rattle.bc_history.specs.declared.place.PortPlace.{PortPlace}
 use Rattle.bc_history.specs.declared.place.PortPlace.TheVariants.{Waits, Exchanges as Port_exchanges, Reports}
 use Rattle.bc_history.specs.declared.place.FollowerPlace.{FollowerPlace}
 use Rattle.bc_history.specs.declared.place.FollowerPlace.TheVariants.{Turns, ReadsTheirs, ReadsOwn, Exchanges, Samples}
-use Rattle.bc_history.specs.declared.scenario.Options.{Options}
 use Rattle.bc_history.specs.declared.scenario.Scenario.{Scenario}
 use Rattle.bc_history.specs.Phases.HubPort.{TickMeasure}
 use Rattle.bc_history.specs.Phases.OpeningState.{servo_of}
 use Rattle.bc_history.specs.Phases.State.{TickLead}
 use Rattle.bc_history.specs.Run.FollowerEntries.{leading_by}
-use Rattle.bc_history.specs.Run.FollowerPlace.{FollowerStep, Read, Exchanged, after_follower_reading, after_follower_step, follower_job, follower_place, follower_place_by_entries}
+use Rattle.bc_history.specs.Run.FollowerPlace.{FollowerStep, Read, Exchanged, after_follower_step, follower_job, follower_place, follower_place_by_entries}
 use Rattle.bc_history.specs.Run.History.{Continues}
 use Rattle.bc_history.specs.Run.PortEntries.{measured_by}
 use Rattle.bc_history.specs.Run.PortPlace.{after_port_exchange, place_by_entries, port_job, port_place}

@@ -27,9 +27,8 @@ use Rattle.bc_history.specs.Run.FollowerEntries.{is_turn_of, turns_by}
 use Rattle.bc_history.specs.Run.FollowerPlace.{Read, Exchanged, after_follower_exchange, after_follower_reading, follower_job, follower_place_by_entries, place_by_lead, told_lead}
 use Rattle.bc_history.specs.Run.History.{IsHistory}
 use Rattle.bc_history.specs.Run.Samples.{follower_sample, follower_samples, sample_of}
-use Rattle.bc_history.specs.Run.World.{Of_follower, Place}
+use Rattle.bc_history.specs.Run.World.{Of_follower}
 use Rattle.bc_history.proofs.lemmas.FollowerPhaseLemmas.{turns_by-more}
-use Rattle.hub_core.specs.FollowerInputs.{IsServed}
 use Rattle.hub_core.specs.HubView.{HubState, newest_seen, with_entry}
 use Rattle.bc_steps.specs.ActorView.{IsLevel}
 use Rattle.bc_steps.specs.ExchangeBounds.{IsAskable}
@@ -73,17 +72,6 @@ turns-input c (Down port tick) place n own next = absurd next
 turns-input c (Up port tick) place n own next = absurd next
 turns-input c (Report port tick gener action outcome) place n own next = absurd next
 turns-input c (Query tick text) place n own next = absurd next
-
--- the hub takes it
-pub served-at : (place : Place) (input : Input) → IsInputAt place input → IsServed input
-served-at place (Turn clock tick) at = tt
-served-at place (Sampled clock tick lead theirs own action outcome) at = tt
-served-at place (Frame port tick octets) at = tt
-served-at place (Timed port tick timer) at = tt
-served-at place (Down port tick) at = tt
-served-at place (Up port tick) at = tt
-served-at place (Report port tick gener action outcome) at = tt
-served-at place (Query tick text) at = at
 
 -- ---- where an entry leads
 

@@ -10,7 +10,6 @@ use Rattle.pi_servo.specs.SteererView.{SteererRepresents}
 use Rattle.bc_history.specs.declared.entry.Entry.{Entry}
 use Rattle.bc_history.specs.declared.entry.Effects.{Effects}
 use Rattle.bc_history.specs.declared.entry.Input.{Input}
-use Rattle.bc_history.specs.declared.entry.Input.TheVariants.{Frame, Timed, Down, Up, Report, Turn, Sampled, Query}
 use Rattle.bc_history.specs.declared.entry.Seen.{Seen}
 use Rattle.bc_history.specs.declared.entry.Who.TheVariants.{Port}
 use Rattle.bc_history.specs.declared.scenario.Options.{Options}
@@ -21,7 +20,6 @@ use Rattle.bc_history.specs.Phases.OpeningState.{servo_of}
 use Rattle.bc_history.specs.Run.Actors.{actor_of, is_by, is_same_actor}
 use Rattle.bc_history.specs.Phases.EntryEffects.{entry_after}
 use Rattle.bc_history.specs.Run.History.{Continues, IsHistory}
-use Rattle.hub_core.specs.FollowerInputs.{IsServed}
 use Rattle.hub_core.specs.HubView.{HubState, entry_by, newest_seen, with_entry}
 use Rattle.bc_history.specs.Run.NextInputs.{records_of}
 use Rattle.bc_history.specs.Run.PortEntries.{is_record_of, taken_by}
@@ -159,17 +157,6 @@ actor-served i j entries e is same by =
     }
 
 -- ---- what the code made
-
--- the hub takes an input of a port
-pub served-own : (p : ℕ) (input : Input) → is_same_actor (Port p) (actor_of input) ≡ true → IsServed input
-served-own p (Frame port tick octets) own = tt
-served-own p (Timed port tick timer) own = tt
-served-own p (Down port tick) own = tt
-served-own p (Up port tick) own = tt
-served-own p (Report port tick gener action outcome) own = tt
-served-own p (Turn clock tick) own = tt
-served-own p (Sampled clock tick lead theirs own action outcome) is = tt
-served-own p (Query tick text) own = cc
 
 -- an entry has the input and the reading that it was made with
 pub entry-input : (s : Scenario) (before : List Entry) (input : Input) (seen : Option Seen) → (entry_after s before input seen).input ≡ input

@@ -7,8 +7,6 @@ use Rattle.bc_history.specs.declared.scenario.Scenario.{Scenario}
 use Rattle.bc_history.specs.Scenario.LineFaults.{Stands, IsFirstFault, fault_at}
 use Rattle.bc_history.specs.Run.World.{End, IsEnd}
 use Rattle.bc_history.proofs.lemmas.EndLemmas.{one_end}
-use Rattle.bc_replay.specs.Stage.SupportedScenarios.{IsSupported, IsUnsupported}
-use Rattle.bc_replay.proofs.lemmas.stage.SupportedScenarioLemmas.{never_both}
 
 pub one_scenario : (text : List ℕ) (s t : Scenario) → Stands text s → Stands text t → s ≡ t
 one_scenario text s t a b = a.said ∙ sym b.said
@@ -40,10 +38,6 @@ pub one_reason : (text : List ℕ) (line other : ℕ) (reason further : Reason) 
 one_reason text line other reason further a b =
     let same : Some reason ≡ Some further = sym a.faulty ∙ (ap (fault_at (lines_of_text text)) (one_index text line other reason further a b) ∙ b.faulty) in
     cc
-
--- a scenario that is supported doesn't stand beside one that is not
-pub supported_apart : (text : List ℕ) (s t : Scenario) → Stands text s → Stands text t → IsSupported s → IsUnsupported t → ⊥
-supported_apart text s t a b supported unsupported = never_both t (subst IsSupported (one_scenario text s t a b) supported) unsupported
 
 -- a text has one end
 pub one_end-of : (text : List ℕ) (s t : Scenario) (end other : End) → Stands text s → Stands text t → IsEnd s end → IsEnd t other → end ≡ other

@@ -3,19 +3,18 @@ use Rattle.std.proofs.Common.{◌≡◌, ℕ, ◌≤◌, List, ◌++◌, length,
 use Rattle.std.proofs.lemmas.List.{append-nil}
 use Rattle.std.specs.Io.KnownBytes.{Consumes, IsAtEnd}
 use Rattle.text_io.specs.declared.reason.Reason.{Reason}
-use Rattle.text_io.specs.declared.reason.Reason.TheVariants.{Unbuilt}
 use Rattle.ptp_base.specs.declared.limits.TheConstants.{TEXT_MAX}
 use Rattle.bc_history.specs.declared.scenario.Scenario.{Scenario}
 use Rattle.bc_history.specs.declared.entry.Run.{Run}
-use Rattle.bc_history.specs.Scenario.LineFaults.{Stands}
+use Rattle.bc_history.specs.Scenario.LineFaults.{Stands, IsFirstFault}
 use Rattle.bc_history.specs.Run.World.{IsEnd, IsWorld, Finished, Not_due, Events as Too_many}
 use Rattle.bc_top.specs.ReadToEnd.{Reads, AreRead, IsReadWhole}
-use Rattle.bc_top.specs.Call.{Call, IsTranscriptOf, IsRefusal, IsOutOfTurn, IsOverfull}
+use Rattle.bc_top.specs.Call.{Call, IsTranscriptOf, IsOutOfTurn, IsOverfull}
 use Rattle.bc_top.specs.EndCauses.{IsCaused}
 use Rattle.bc_top.specs.EndCompleteness.{IsEndAt, IsComplete}
 use Rattle.bc_top.specs.declared.outcome.End.{End}
 use Rattle.bc_top.specs.declared.outcome.End.TheVariants.{Done, Usage, Refused, ReadFault, WriteFault, Events, NoMemory, NotDue, TooLong}
-use Rattle.bc_top.proofs.lemmas.CallLemmas.{stands-faultless, one_line, one_end-of, one_reason, supported_apart}
+use Rattle.bc_top.proofs.lemmas.CallLemmas.{stands-faultless, one_line, one_end-of, one_reason}
 
 all_was_read : (after : Option (List ℕ)) (text octets : List ℕ) → Consumes (Some text) after octets → IsAtEnd after → octets ≡ text
 all_was_read None text octets given end = absurd given
@@ -53,10 +52,9 @@ one_turn text s t turn other a b first second =
 
 done-at : (text out : List ℕ) → length text ≤ TEXT_MAX → IsTranscriptOf text out → IsEndAt text Done
 done-at text out short made = record {
-  done = λ few s run stands supported world. inl refl;
-  events = λ few s stands supported events. absurd (run_not_full text made.scenario s made.run made.stands stands made.world events);
-  not_due = λ few s turn stands supported undue. absurd (run_not_stopped text made.scenario s made.run turn made.stands stands made.world undue);
-  unsupported = λ few s stands unsupported. absurd (supported_apart text made.scenario s made.stands stands made.supported unsupported);
+  done = λ few s run stands world. inl refl;
+  events = λ few s stands events. absurd (run_not_full text made.scenario s made.run made.stands stands made.world events);
+  not_due = λ few s turn stands undue. absurd (run_not_stopped text made.scenario s made.run turn made.stands stands made.world undue);
   refused = λ few line reason fault. absurd (stands-faultless text made.scenario line reason made.stands fault);
   too_long = λ long. absurd (omega (arith, long, short));
 }
@@ -64,60 +62,47 @@ done-at text out short made = record {
 same_refusal : (line other : ℕ) (reason further : Reason) → line ≡ other → reason ≡ further → Refused line reason ≡ Refused other further
 same_refusal line other reason further lines reasons = cc
 
-refused-at : (text : List ℕ) (line : ℕ) (reason : Reason) → length text ≤ TEXT_MAX → IsRefusal text line reason → IsEndAt text (Refused line reason)
-refused-at text line reason short (inl fault) = record {
-  done = λ few s run stands supported world. absurd (stands-faultless text s line reason stands fault);
-  events = λ few s stands supported events. absurd (stands-faultless text s line reason stands fault);
-  not_due = λ few s turn stands supported undue. absurd (stands-faultless text s line reason stands fault);
-  unsupported = λ few s stands unsupported. absurd (stands-faultless text s line reason stands fault);
+refused-at : (text : List ℕ) (line : ℕ) (reason : Reason) → length text ≤ TEXT_MAX → IsFirstFault text line reason → IsEndAt text (Refused line reason)
+refused-at text line reason short fault = record {
+  done = λ few s run stands world. absurd (stands-faultless text s line reason stands fault);
+  events = λ few s stands events. absurd (stands-faultless text s line reason stands fault);
+  not_due = λ few s turn stands undue. absurd (stands-faultless text s line reason stands fault);
   refused = λ few other further first. inl (same_refusal line other reason further (one_line text line other reason further fault first) (one_reason text line other reason further fault first));
-  too_long = λ long. absurd (omega (arith, long, short));
-}
-refused-at text line reason short (inr of) = record {
-  done = λ few s run stands supported world. absurd (supported_apart text s of.scenario stands of.stands supported of.unsupported);
-  events = λ few s stands supported events. absurd (supported_apart text s of.scenario stands of.stands supported of.unsupported);
-  not_due = λ few s turn stands supported undue. absurd (supported_apart text s of.scenario stands of.stands supported of.unsupported);
-  unsupported = λ few s stands unsupported. inl (same_refusal line 0 reason Unbuilt of.whole of.cause);
-  refused = λ few other further first. absurd (stands-faultless text of.scenario other further of.stands first);
   too_long = λ long. absurd (omega (arith, long, short));
 }
 
 events-at : (text : List ℕ) → length text ≤ TEXT_MAX → IsOverfull text → IsEndAt text Events
 events-at text short over = record {
-  done = λ few s run stands supported world. absurd (run_not_full text s over.scenario run stands over.stands world over.events);
-  events = λ few s stands supported events. inl refl;
-  not_due = λ few s turn stands supported undue. absurd (full_not_stopped text over.scenario s turn over.stands stands over.events undue);
-  unsupported = λ few s stands unsupported. absurd (supported_apart text over.scenario s over.stands stands over.supported unsupported);
+  done = λ few s run stands world. absurd (run_not_full text s over.scenario run stands over.stands world over.events);
+  events = λ few s stands events. inl refl;
+  not_due = λ few s turn stands undue. absurd (full_not_stopped text over.scenario s turn over.stands stands over.events undue);
   refused = λ few line reason fault. absurd (stands-faultless text over.scenario line reason over.stands fault);
   too_long = λ long. absurd (omega (arith, long, short));
 }
 
 not_due-at : (text : List ℕ) (turn : ℕ) → length text ≤ TEXT_MAX → IsOutOfTurn text turn → IsEndAt text (NotDue turn)
 not_due-at text turn short of = record {
-  done = λ few s run stands supported world. absurd (run_not_stopped text s of.scenario run turn stands of.stands world of.undue);
-  events = λ few s stands supported events. absurd (full_not_stopped text s of.scenario turn stands of.stands events of.undue);
-  not_due = λ few s other stands supported undue. inl (one_turn text of.scenario s turn other of.stands stands of.undue undue);
-  unsupported = λ few s stands unsupported. absurd (supported_apart text of.scenario s of.stands stands of.supported unsupported);
+  done = λ few s run stands world. absurd (run_not_stopped text s of.scenario run turn stands of.stands world of.undue);
+  events = λ few s stands events. absurd (full_not_stopped text s of.scenario turn stands of.stands events of.undue);
+  not_due = λ few s other stands undue. inl (one_turn text of.scenario s turn other of.stands stands of.undue undue);
   refused = λ few line reason fault. absurd (stands-faultless text of.scenario line reason of.stands fault);
   too_long = λ long. absurd (omega (arith, long, short));
 }
 
 memory-at : (text : List ℕ) → IsEndAt text NoMemory
 memory-at text = record {
-  done = λ few s run stands supported world. inr refl;
-  events = λ few s stands supported events. inr refl;
-  not_due = λ few s turn stands supported undue. inr refl;
-  unsupported = λ few s stands unsupported. inr refl;
+  done = λ few s run stands world. inr refl;
+  events = λ few s stands events. inr refl;
+  not_due = λ few s turn stands undue. inr refl;
   refused = λ few line reason fault. inr refl;
   too_long = λ long. inr refl;
 }
 
 too_long-at : (text : List ℕ) → (length text ≤ TEXT_MAX → ⊥) → IsEndAt text TooLong
 too_long-at text long = record {
-  done = λ few s run stands supported world. absurd (long few);
-  events = λ few s stands supported events. absurd (long few);
-  not_due = λ few s turn stands supported undue. absurd (long few);
-  unsupported = λ few s stands unsupported. absurd (long few);
+  done = λ few s run stands world. absurd (long few);
+  events = λ few s stands events. absurd (long few);
+  not_due = λ few s turn stands undue. absurd (long few);
   refused = λ few line reason fault. absurd (long few);
   too_long = λ far. inl refl;
 }
@@ -129,7 +114,7 @@ at_text r text octets end told read at = subst (λ t. IsEndAt t end) (text_is r 
 pub complete : (c : Call) (end : End) → IsCaused c end → IsComplete c end
 complete c Done cause = λ words no_read no_write text told. at_text c.reads text cause.text Done told cause.read (done-at cause.text cause.out cause.read.short cause.transcript)
 complete c Usage cause = λ words no_read no_write text told. absurd (cause.other words)
-complete c (Refused line reason) cause = λ words no_read no_write text told. at_text c.reads text cause.text (Refused line reason) told cause.read (refused-at cause.text line reason cause.read.short cause.refusal)
+complete c (Refused line reason) cause = λ words no_read no_write text told. at_text c.reads text cause.text (Refused line reason) told cause.read (refused-at cause.text line reason cause.read.short cause.fault)
 complete c ReadFault cause = λ words no_read no_write text told. absurd (no_read cause.failed.counted.0)
 complete c WriteFault cause = λ words no_read no_write text told. absurd (no_write cause.failed.counted.0)
 complete c Events cause = λ words no_read no_write text told. at_text c.reads text cause.text Events told cause.read (events-at cause.text cause.read.short cause.overfull)

@@ -1,5 +1,5 @@
 -- A hub before and after an event.
-use Rattle.std.proofs.Common.{Bool, true, false, cond, None, option_map, ◌≡◌, ℕ, zero, suc, ◌+◌, ◌-◌, ◌<◌, ◌≤◌, List, [], ◌∷◌, ◌++◌, length, reverse, refl, sym, ap, subst, ◌∙◌, arith, Option, Some, length-append}
+use Rattle.std.proofs.Common.{Bool, true, false, cond, None, option_map, ◌≡◌, ◌≢◌, ℕ, zero, suc, ◌+◌, ◌-◌, ◌%◌, ◌<◌, ◌≤◌, List, [], ◌∷◌, ◌++◌, length, reverse, refl, sym, ap, subst, ◌∙◌, arith, Option, Some, length-append}
 use Rattle.std.specs.Prelude.{slice_get, slice_set, is_some, option_and_then, ℤ, ◌+ℤ◌, All, IfSome, OnErr, OnOk, Result, Ok, Err}
 use Rattle.std.proofs.lemmas.Int.{ints}
 use Rattle.std.proofs.lemmas.List.{length-reverse}
@@ -14,6 +14,7 @@ use Rattle.ptp_profile.specs.declared.seats.Receipt.{Receipt}
 use Rattle.ptp_profile.specs.declared.seats.Refused.{Refused}
 use Rattle.ptp_profile.specs.Roles.SeatLogs.{log_at, whole_reading, with_orders}
 use Rattle.ptp_profile.specs.Port.PortTimers.{due_of}
+use Rattle.bc_history.specs.declared.entry.Effects.{Effects}
 use Rattle.bc_history.specs.declared.entry.Entry.{Entry}
 use Rattle.bc_history.specs.declared.entry.Input.{Input}
 use Rattle.bc_history.specs.declared.entry.Input.TheVariants.{Frame, Timed, Down, Up, Report, Turn, Sampled, Query}
@@ -32,12 +33,13 @@ use Rattle.bc_history.specs.Phases.OpeningState.{opening}
 use Rattle.bc_history.specs.Scenario.ScenarioRules.{IsScenario}
 use Rattle.bc_history.specs.Phases.State.{State}
 use Rattle.bc_history.specs.Phases.HubPort.{HubPort}
+use Rattle.bc_history.specs.Phases.QueryAnswers.{requests_after}
 use Rattle.bc_history.specs.Phases.Step.{queries_after, state_of, step}
 use Rattle.bc_ports.specs.declared.hub_port.HubPort.{HubPort as KeptPort}
 use Rattle.bc_ports.proofs.lemmas.RepresentationLemmas.{PortsRepresent-some}
 use Rattle.discipline_seat.specs.SeatsView.{Seats, with_entry as with_change_entry}
 use Rattle.bc_roles.specs.RolesView.{RolesRepresent, RolesView}
-use Rattle.hub_core.specs.HubView.{HubState, IsHub, IsMeasuredTime, entry_by, history_of, newest_seen, reading_at, with_entry}
+use Rattle.hub_core.specs.HubView.{HubState, HubYields, IsHub, IsMeasuredTime, entry_by, history_of, newest_seen, reading_at, with_entry}
 use Rattle.hub_core.specs.FollowerInputs.{IsServed}
 use Rattle.hub_core.specs.HubParts.{PartsYield, PartsRepresent}
 use Rattle.hub_core.specs.PortReading.{input_seen}
@@ -47,13 +49,14 @@ use Rattle.hub_core.proofs.lemmas.PortEntryLemmas.{due-port, history-again, plac
 
 -- ---- before the first entry
 
-pub hub-opened : (i : Inside) → i.entries ≡ [] → IsScenario i.scenario.value → PartsRepresent i.scenario.value i.machine (opening i.scenario.value) → i.machine.roles.generation.gener ≡ 0 → i.asked ≡ 0 → IsHub i
+pub hub-opened : (i : Inside) → i.entries ≡ [] → IsScenario i.scenario.value → PartsRepresent i.scenario.value i.machine (opening i.scenario.value) → i.machine.roles.generation.gener ≡ 0 → i.asked ≡ 0 → i.sequence ≡ 0 → IsHub i
 unfolding state_of
-hub-opened i none rules machine gener asked =
+hub-opened i none rules machine gener asked sequence =
     let s = i.scenario.value in
     let H : List Entry → Type 0 = λ es. IsHistory s es in
     let M : List Entry → Type 0 = λ es. PartsRepresent s i.machine (state_of s es) in
     let Q : List Entry → Type 0 = λ es. i.asked ≡ (state_of s es).queries in
+    let R : List Entry → Type 0 = λ es. i.sequence ≡ (state_of s es).requests % 65536 in
     let empty : [] ≡ history_of i = ap (λ (es : List Entry). reverse es) (sym none) in
     record {
       rules = rules;
@@ -61,7 +64,9 @@ hub-opened i none rules machine gener asked =
       times = subst (λ (es : List Entry). All IsReadTime es) empty (All-nil IsReadTime);
       machine = subst M empty machine;
       gener = omega (arith, gener);
+      few_asked = omega (arith, asked);
       asked = subst Q empty asked;
+      sequence = subst R empty sequence;
     }
 
 -- ---- rooms
@@ -98,9 +103,9 @@ pub logs-roomier : (old new : RolesView) → IsRoomier old new → new.seats.log
 logs-roomier old new more = ap (λ (r : RolesView). r.seats.logs) more.same
 
 -- the same history with another machine that stands for it
-pub hub-same : (i j : Inside) → IsHub i → j.scenario.value ≡ i.scenario.value → j.entries ≡ i.entries → j.asked ≡ i.asked
+pub hub-same : (i j : Inside) → IsHub i → j.scenario.value ≡ i.scenario.value → j.entries ≡ i.entries → j.asked ≡ i.asked → j.sequence ≡ i.sequence
     → PartsRepresent i.scenario.value j.machine (state_of i.scenario.value (history_of i)) → j.machine.roles.generation.gener ≡ i.machine.roles.generation.gener → IsHub j
-hub-same i j was scenario entries asked machine gener =
+hub-same i j was scenario entries asked sequence machine gener =
     let history : history_of i ≡ history_of j = ap (λ (es : List Entry). reverse es) (sym entries) in
     let long = ap (λ (es : List Entry). length es) entries in
     let S : Scenario → Type 0 = λ s. IsScenario s in
@@ -110,13 +115,17 @@ hub-same i j was scenario entries asked machine gener =
     let M' : List Entry → Type 0 = λ es. PartsRepresent j.scenario.value j.machine (state_of j.scenario.value es) in
     let Q : Scenario → Type 0 = λ s. j.asked ≡ (state_of s (history_of i)).queries in
     let Q' : List Entry → Type 0 = λ es. j.asked ≡ (state_of j.scenario.value es).queries in
+    let R : Scenario → Type 0 = λ s. j.sequence ≡ (state_of s (history_of i)).requests % 65536 in
+    let R' : List Entry → Type 0 = λ es. j.sequence ≡ (state_of j.scenario.value es).requests % 65536 in
     record {
       rules = subst S (sym scenario) was.rules;
       history = subst H' history (subst H (sym scenario) was.history);
       times = subst (λ (es : List Entry). All IsReadTime es) history was.times;
       machine = subst M' history (subst M (sym scenario) machine);
       gener = omega (arith, was.gener, gener, long);
+      few_asked = omega (arith, was.few_asked, asked, long);
       asked = subst Q' history (subst Q (sym scenario) (asked ∙ was.asked));
+      sequence = subst R' history (subst R (sym scenario) (sequence ∙ was.sequence));
     }
 
 -- ---- one entry more
@@ -133,8 +142,17 @@ follows-after : (s : Scenario) (before : List Entry) (input : Input) (seen : Opt
 unfolding entry_after
 follows-after s before input seen due read = record { due = due; read = read; made = refl }
 
+-- how many queries came, and how many requests there were, one entry later
+queries-next : (s : Scenario) (before : List Entry) (input : Input) (seen : Option Seen) → (state_of s (entry_after s before input seen ∷ before)).queries ≡ queries_after input (state_of s before).queries
+unfolding state_of step entry_after
+queries-next s before input seen = refl
+
+requests-next : (s : Scenario) (before : List Entry) (input : Input) (seen : Option Seen) → (state_of s (entry_after s before input seen ∷ before)).requests ≡ requests_after input (state_of s before).requests
+unfolding state_of step entry_after
+requests-next s before input seen = refl
+
 -- an input that is no query is not counted as one
-queries-served : (input : Input) (n : ℕ) → IsServed input → queries_after input n ≡ n
+pub queries-served : (input : Input) (n : ℕ) → IsServed input → n ≡ queries_after input n
 queries-served (Frame port tick octets) n own = refl
 queries-served (Timed port tick timer) n own = refl
 queries-served (Down port tick) n own = refl
@@ -144,9 +162,38 @@ queries-served (Turn clock tick) n own = refl
 queries-served (Sampled clock tick lead theirs ours action outcome) n own = refl
 queries-served (Query tick text) n own = absurd own
 
-queries-same : (s : Scenario) (before : List Entry) (input : Input) (seen : Option Seen) → IsServed input → (state_of s (entry_after s before input seen ∷ before)).queries ≡ (state_of s before).queries
-unfolding state_of step entry_after
-queries-same s before input seen own = queries-served input (state_of s before).queries own
+-- nor as a request
+pub requests-served : (input : Input) (n : ℕ) → IsServed input → n ≡ requests_after input n
+requests-served (Frame port tick octets) n own = refl
+requests-served (Timed port tick timer) n own = refl
+requests-served (Down port tick) n own = refl
+requests-served (Up port tick) n own = refl
+requests-served (Report port tick gener action outcome) n own = refl
+requests-served (Turn clock tick) n own = refl
+requests-served (Sampled clock tick lead theirs ours action outcome) n own = refl
+requests-served (Query tick text) n own = absurd own
+
+-- an input is one query at most
+queries-few : (input : Input) (n : ℕ) → queries_after input n ≤ n + 1
+queries-few (Frame port tick octets) n = omega arith
+queries-few (Timed port tick timer) n = omega arith
+queries-few (Down port tick) n = omega arith
+queries-few (Up port tick) n = omega arith
+queries-few (Report port tick gener action outcome) n = omega arith
+queries-few (Turn clock tick) n = omega arith
+queries-few (Sampled clock tick lead theirs ours action outcome) n = omega arith
+queries-few (Query tick text) n = omega arith
+
+-- all but a query are served
+pub not-a-query : (input : Input) → ((tick : ℕ) (text : List ℕ) → input ≢ Query tick text) → IsServed input
+not-a-query (Frame port tick octets) other = tt
+not-a-query (Timed port tick timer) other = tt
+not-a-query (Down port tick) other = tt
+not-a-query (Up port tick) other = tt
+not-a-query (Report port tick gener action outcome) other = tt
+not-a-query (Turn clock tick) other = tt
+not-a-query (Sampled clock tick lead theirs ours action outcome) other = tt
+not-a-query (Query tick text) other = absurd (other tick text refl)
 
 -- an entry in the place of the draft at the end
 pub drafted : (es : List Entry) (draft e : Entry) → slice_set (es ++ draft ∷ []) (length es) e ≡ es ++ e ∷ []
@@ -185,24 +232,24 @@ port-read s before logs p due =
     seen-some s logs p at.port (placed-at s before p.number at.port at.there)
 
 -- so does each input
-read-due : (s : Scenario) (before : List Entry) (logs : List (List LogEntry)) (input : Input) → IsServed input → IsDue s (state_of s before) input
+read-due : (s : Scenario) (before : List Entry) (logs : List (List LogEntry)) (input : Input) → IsDue s (state_of s before) input
     → is_some (input_seen s logs input) ≡ is_read input
-read-due s before logs (Frame port tick octets) own due = port-read s before logs (record { number = port; tick = tick; what = Frame_arrives octets }) due
-read-due s before logs (Timed port tick timer) own due = port-read s before logs (record { number = port; tick = tick; what = Timer_fires timer }) due
-read-due s before logs (Down port tick) own due = port-read s before logs (record { number = port; tick = tick; what = Goes_down }) due
-read-due s before logs (Up port tick) own due = port-read s before logs (record { number = port; tick = tick; what = Comes_up }) due
-read-due s before logs (Report port tick gener action outcome) own due = port-read s before logs (record { number = port; tick = tick; what = Reports gener action outcome }) due
-read-due s before logs (Turn clock tick) own due = refl
-read-due s before logs (Sampled clock tick lead theirs ours action outcome) own due = refl
-read-due s before logs (Query tick text) own due = absurd own
+read-due s before logs (Frame port tick octets) due = port-read s before logs (record { number = port; tick = tick; what = Frame_arrives octets }) due
+read-due s before logs (Timed port tick timer) due = port-read s before logs (record { number = port; tick = tick; what = Timer_fires timer }) due
+read-due s before logs (Down port tick) due = port-read s before logs (record { number = port; tick = tick; what = Goes_down }) due
+read-due s before logs (Up port tick) due = port-read s before logs (record { number = port; tick = tick; what = Comes_up }) due
+read-due s before logs (Report port tick gener action outcome) due = port-read s before logs (record { number = port; tick = tick; what = Reports gener action outcome }) due
+read-due s before logs (Turn clock tick) due = refl
+read-due s before logs (Sampled clock tick lead theirs ours action outcome) due = refl
+read-due s before logs (Query tick text) due = refl
 
--- a hub that served one more input
+-- a hub that took one more input
 pub record HasTakenOne (i j : Inside) (input : Input) (logs : List (List LogEntry)) (entry : Entry) : Type 0 where
   pub scenario : j.scenario.value ≡ i.scenario.value
-  pub own : IsServed input
   pub served : PartsYield i.scenario.value (history_of i) logs input j.machine entry
   pub entries : j.entries ≡ i.entries ++ entry ∷ []
-  pub asked : j.asked ≡ i.asked
+  pub asked : j.asked ≡ queries_after input i.asked
+  pub sequence : (requests : ℕ) → i.sequence ≡ requests % 65536 → j.sequence ≡ requests_after input requests % 65536
   pub gener : j.machine.roles.generation.gener ≤ i.machine.roles.generation.gener + 1
   pub logs_before : logs ≡ i.machine.roles.seats.logs
   pub logs_after : j.machine.roles.seats.logs ≡ with_orders logs entry.effects.orders
@@ -217,21 +264,25 @@ hub-next i j input logs entry was few due is =
     let before = history_of i in
     let h = state_of s before in
     let reading = input_seen s logs input in
-    let read = read-due s before logs input is.own due in
+    let read = read-due s before logs input due in
     let history : history_of j ≡ entry ∷ before = history-one i j input logs entry is in
     let move : (P : Scenario → List Entry → Type 0) → P s (entry ∷ before) → P j.scenario.value (history_of j) =
     λ P x. subst (λ (y : Scenario). P y (history_of j)) (sym is.scenario) (subst (λ (es : List Entry). P s es) (sym history) x) in
     let long = length-reverse i.entries in
     let more = ap (λ (es : List Entry). length es) is.entries ∙ length-append i.entries (entry ∷ []) in
     let follows = subst (λ (e : Entry). Follows s before e) (sym is.served.entry_is) (follows-after s before input reading due read) in
-    let asked = ap (λ (e : Entry). (state_of s (e ∷ before)).queries) is.served.entry_is ∙ queries-same s before input reading is.own in
+    let asked = ap (λ (e : Entry). (state_of s (e ∷ before)).queries) is.served.entry_is ∙ queries-next s before input reading in
+    let sequence = ap (λ (e : Entry). (state_of s (e ∷ before)).requests % 65536) is.served.entry_is ∙ ap (λ (n : ℕ). n % 65536) (requests-next s before input reading) in
+    let one = queries-few input i.asked in
     record {
       rules = subst (λ (x : Scenario). IsScenario x) (sym is.scenario) was.rules;
       history = move (λ x es. IsHistory x es) (record { few = omega (arith, few, long); continues = (follows, was.history.continues) });
       times = move (λ x es. All IsReadTime es) (All-cons IsReadTime entry before (entry-time s before logs input entry is.served.entry_is) was.times);
       machine = move (λ x es. PartsRepresent x j.machine (state_of x es)) is.served.machine;
       gener = omega (arith, is.gener, was.gener, more);
-      asked = move (λ x es. j.asked ≡ (state_of x es).queries) (is.asked ∙ (was.asked ∙ sym asked));
+      few_asked = omega (arith, is.asked, one, was.few_asked, more);
+      asked = move (λ x es. j.asked ≡ (state_of x es).queries) (is.asked ∙ ap (λ (n : ℕ). queries_after input n) was.asked ∙ sym asked);
+      sequence = move (λ x es. j.sequence ≡ (state_of x es).requests % 65536) (is.sequence h.requests was.sequence ∙ sym sequence);
     }
 
 -- a fact of what may be there
@@ -240,7 +291,7 @@ if_there None P each = tt
 if_there (Some m) P each = each m refl
 
 -- what the event measured bears a time that a clock read
-pub measured-time : (i j : Inside) (input : Input) (logs : List (List LogEntry)) (entry : Entry) → HasTakenOne i j input logs entry
+measured-time : (i j : Inside) (input : Input) (logs : List (List LogEntry)) (entry : Entry) → HasTakenOne i j input logs entry
     → IsHub j → IsMeasuredTime entry.effects
 measured-time i j input logs entry is now =
     let history = history-one i j input logs entry is in
@@ -265,24 +316,36 @@ newest-one i j input logs entry is =
     ∙ seen-after i.scenario.value (history_of i) input (input_seen i.scenario.value logs input)
 
 -- the newest entry has the reading that comes with the input
-pub reading-taken : (i j : Inside) (input : Input) (logs : List (List LogEntry)) (entry : Entry) → HasTakenOne i j input logs entry → newest_seen (history_of j) ≡ reading_at (seen_of i) input
+reading-taken : (i j : Inside) (input : Input) (logs : List (List LogEntry)) (entry : Entry) → HasTakenOne i j input logs entry → newest_seen (history_of j) ≡ reading_at (seen_of i) input
 reading-taken i j input logs entry is =
     newest-one i j input logs entry is ∙ ap (λ (ls : List (List LogEntry)). input_seen i.scenario.value ls input) is.logs_before
 
 -- the entry is the one that the input makes with that reading
-pub entry-taken : (i j : Inside) (input : Input) (logs : List (List LogEntry)) (entry : Entry) → HasTakenOne i j input logs entry → entry ≡ entry_by (seen_of i) input (newest_seen (history_of j))
+entry-taken : (i j : Inside) (input : Input) (logs : List (List LogEntry)) (entry : Entry) → HasTakenOne i j input logs entry → entry ≡ entry_by (seen_of i) input (newest_seen (history_of j))
 entry-taken i j input logs entry is =
     let s = i.scenario.value in
     let before = history_of i in
     is.served.entry_is ∙ ap (λ (x : Option Seen). entry_after s before input x) (sym (newest-one i j input logs entry is))
 
-pub hub-taken : (i j : Inside) (input : Input) (logs : List (List LogEntry)) (entry : Entry) → HasTakenOne i j input logs entry
+hub-taken : (i j : Inside) (input : Input) (logs : List (List LogEntry)) (entry : Entry) → HasTakenOne i j input logs entry
     → seen_of j ≡ with_entry (seen_of i) (entry_by (seen_of i) input (newest_seen (history_of j)))
 hub-taken i j input logs entry is =
     let by = entry-taken i j input logs entry is in
     let history = history-one i j input logs entry is ∙ ap (λ (e : Entry). e ∷ history_of i) by in
     let logs_are = is.logs_after ∙ (ap (λ (ls : List (List LogEntry)). with_orders ls entry.effects.orders) is.logs_before ∙ ap (λ (e : Entry). with_orders i.machine.roles.seats.logs e.effects.orders) by) in
     same-hub _ _ _ _ _ _ is.scenario history logs_are
+
+-- what the event made of the hub, by what contracts see of it before and after
+pub hub-yields : (i j : Inside) (input : Input) (logs : List (List LogEntry)) (entry : Entry) (old : HubState) (effects : Effects) → HasTakenOne i j input logs entry → IsHub j → seen_of i ≡ old → effects ≡ entry.effects
+    → HubYields old input (seen_of j) effects
+hub-yields i j input logs entry old effects is now before told =
+    let H : HubState → Type 0 = λ h. HubYields h input (seen_of j) effects in
+    subst H before (record {
+      entry = hub-taken i j input logs entry is;
+      reading = reading-taken i j input logs entry is;
+      told = told ∙ ap (λ (e : Entry). e.effects) (entry-taken i j input logs entry is);
+      measured = subst IsMeasuredTime (sym told) (measured-time i j input logs entry is now);
+    })
 
 -- ---- what is due
 

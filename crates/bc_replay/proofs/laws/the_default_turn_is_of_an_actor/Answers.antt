@@ -1,5 +1,5 @@
-use Rattle.bc_replay.proofs.lemmas.stage.UnaskedTurnLemmas.{turn-unasked}
+use Rattle.bc_replay.proofs.lemmas.DefaultTurnLemmas.{turn-all}
 use Rattle.bc_replay.proofs.laws.the_default_turn_is_of_an_actor.Goals as goal
 
 pub returns : goal.returns
-returns c = turn-unasked
+returns c = turn-all

@@ -12,14 +12,14 @@ turn_of-requires-clause-level c = subst (λ (actors : List ActorState). AreLevel
 pub returns-in_default-clause-error : goal.returns-in_default-clause-error
 returns-in_default-clause-error c =
     let none = found-none c.loop-k.hub c.loop-k.actors.items c.deref.result.now c.args.line.who c.turn_of.result c.in_default.is c.deref.ensures.value c.turn_of.ensures in
-    Loop-stops c.args.s.now (c.args.taken + c.loop-k.k) c.loop-k.hub c.loop-k.actors.items c.args.line.who c.requires.supported c.loop-k.invariant
+    Loop-stops c.args.s.now (c.args.taken + c.loop-k.k) c.loop-k.hub c.loop-k.actors.items c.args.line.who c.loop-k.invariant
     (c.requires.turns c.loop-k.k c.loop-k-test.true) c.requires.there none
 
 pub returns-in_err-take_turn-clause-error : goal.returns-in_err-take_turn-clause-error
 returns-in_err-take_turn-clause-error c =
     let turn = found-turn c.loop-k.hub c.loop-k.actors.items c.deref.result.now c.args.line.who c.in-Some.i c.turn_of.result c.in-Some.is c.deref.ensures.value c.turn_of.ensures in
     handed-on (IsReplayError c.args.s.now) c.from_residual.result c.in_err-take_turn.field-0.0 c.from_residual.ensures.1
-    (taken-error c.args.s.now (c.args.taken + c.loop-k.k) c.loop-k.hub c.loop-k.actors.items c.args.line.who c.in-Some.i c.in_err-take_turn.field-0.0 turn c.requires.supported c.loop-k.invariant
+    (taken-error c.args.s.now (c.args.taken + c.loop-k.k) c.loop-k.hub c.loop-k.actors.items c.args.line.who c.in-Some.i c.in_err-take_turn.field-0.0 turn c.loop-k.invariant
     (ap turner_or_default (c.requires.turns c.loop-k.k c.loop-k-test.true)) c.in_err-take_turn.ensures.error)
 
 pub loop-k-preserved : goal.loop-k-preserved
@@ -27,5 +27,5 @@ loop-k-preserved c =
     let turn = found-turn c.loop-k.hub c.loop-k.actors.items c.deref.result.now c.args.line.who c.in-Some.i c.turn_of.result c.in-Some.is c.deref.ensures.value c.turn_of.ensures in
     let next : c.args.taken + c.loop-k.k + 1 ≡ c.args.taken + (c.loop-k.k + 1) = omega arith in
     subst (λ (n : ℕ). LoopRepresents c.args.s.now n c.take_turn.new.hub c.take_turn.new.actors.items) next
-    (taken-step c.args.s.now (c.args.taken + c.loop-k.k) c.loop-k.hub c.take_turn.new.hub c.loop-k.actors.items c.take_turn.new.actors.items c.args.line.who c.in-Some.i turn c.requires.supported c.loop-k.invariant
+    (taken-step c.args.s.now (c.args.taken + c.loop-k.k) c.loop-k.hub c.take_turn.new.hub c.loop-k.actors.items c.take_turn.new.actors.items c.args.line.who c.in-Some.i turn c.loop-k.invariant
     (ap turner_or_default (c.requires.turns c.loop-k.k c.loop-k-test.true)) c.in_ok-take_turn.ensures.step)

@@ -1,5 +1,5 @@
-use Rattle.std.proofs.Common.{◌≡◌, ◌+◌, take, ap, sym, ◌∙◌, arith}
-use Rattle.bc_replay.proofs.lemmas.ScheduleLemmas.{line-there, line-turns, past-schedule, turns-more, turns_in}
+use Rattle.std.proofs.Common.{◌+◌, ap, sym, ◌∙◌, arith}
+use Rattle.bc_replay.proofs.lemmas.ScheduleLemmas.{line-there, line-turns, past-schedule, turns-more}
 use Rattle.bc_replay.proofs.run.take_schedule.Goals as goal
 
 pub take_line-requires-clause-there : goal.take_line-requires-clause-there

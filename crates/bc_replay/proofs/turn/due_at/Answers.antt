@@ -1,4 +1,4 @@
-use Rattle.std.proofs.Common.{◌≡◌, ℕ, length, slice_get, Some, None, ap, refl, subst, sym, ◌∙◌, arith}
+use Rattle.std.proofs.Common.{◌≡◌, ℕ, length, slice_get, Some, None, refl, subst, sym, ◌∙◌}
 use Rattle.std.proofs.lemmas.Option.{same_Some, slice_get_read}
 use Rattle.bc_steps.specs.ActorView.{ActorState, due_tick}
 use Rattle.bc_replay.specs.ActorTurns.{IsDueAt}

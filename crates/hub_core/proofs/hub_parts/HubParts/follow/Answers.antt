@@ -12,7 +12,7 @@ use Rattle.hub_core.specs.EffectParts.{follower_entry}
 use Rattle.hub_core.specs.HubParts.{PartsRepresent}
 use Rattle.hub_core.specs.PortReading.{input_seen}
 use Rattle.hub_core.specs.declared.hub_parts.HubParts.{HubParts}
-use Rattle.hub_core.proofs.lemmas.FollowerEntryLemmas.{follower-entry, machine-followed, notices-clocks, notices-few, turner-there, unread}
+use Rattle.hub_core.proofs.lemmas.PortlessEntryLemmas.{follower-entry, machine-followed, notices-clocks, notices-few, portless, turner-there, unread}
 use Rattle.hub_core.proofs.hub_parts.HubParts.follow.Goals as goal
 
 pub told-told-requires-clause-turner : goal.told-told-requires-clause-turner
@@ -41,7 +41,7 @@ returns-clause-served c = λ s entries rules machine due.
     let clock = subst C tick (c.advance_moment.ensures.clock o h.core h.measured machine.core) in
     let said = c.told-told.ensures.told o at h.roles h.followers clock.core machine.roles machine.notices in
     let moment = clock.core.moment in
-    let none : input_seen s m.roles.seats.logs input ≡ None = unread s m.roles.seats.logs input c.requires.own in
+    let none : input_seen s m.roles.seats.logs input ≡ None = unread s m.roles.seats.logs input (portless input c.requires.own) in
     let same = c.told-told.ensures.same in
     let at_end : new.core.moment ≡ max h.core.moment (tick_of input) = ap (λ (x : HubParts). x.core.moment) same ∙ moment in
     let entry_is : c.follower_entry.result ≡ entry_after s entries input None =
@@ -50,7 +50,7 @@ returns-clause-served c = λ s entries rules machine due.
     ∙ sym (follower-entry s entries input c.requires.own) in
     let ports = ap (λ (n : BoundaryClock). n.ports.len) c.advance_moment.ensures.exact in
     let notices = c.told-told.ensures.notices o at h.roles h.followers clock.core machine.roles machine.notices in
-    let next = machine-followed s entries input m core new.notices c.requires.own machine c.advance_moment.ensures.sound ports clock notices in
+    let next = machine-followed s entries input m core new.notices (portless input c.requires.own) machine c.advance_moment.ensures.sound ports clock notices in
     record {
       entry_is = entry_is ∙ ap (λ (x : Option Seen). entry_after s entries input x) (sym none);
       machine = subst (λ (x : Entry). PartsRepresent s new (state_of s (x ∷ entries))) (sym entry_is)

@@ -29,7 +29,7 @@ use Rattle.hub_core.specs.declared.hub_parts.HubParts.{HubParts}
 use Rattle.hub_core.proofs.lemmas.PortEntryLemmas.{IsAtPort, IsPlaced, clock-is, clock-there, clocks-there, due-port, due-tick, placed-at, seen-is}
 use Rattle.hub_core.proofs.lemmas.EffectRoomLemmas.{few-frames, few-moves, sends-known, short-frames}
 use Rattle.hub_core.proofs.lemmas.EntryLemmas.{IsMade, clocks-decided, entry-made, frames-few, machine-next}
-use Rattle.hub_core.proofs.lemmas.FollowerEntryLemmas.{notices-clocks, notices-few}
+use Rattle.hub_core.proofs.lemmas.PortlessEntryLemmas.{notices-clocks, notices-few}
 use Rattle.hub_core.proofs.hub_parts.HubParts.serve.Goals as goal
 
 -- the port of the input

@@ -10,12 +10,9 @@ use Rattle.bc_steps.specs.ActorView.{ActorState, IsLevel}
 use Rattle.bc_steps.specs.FollowerJob.{IsInputAt}
 use Rattle.bc_steps.specs.declared.follower.actor.FollowerActor.TheInside.{Inside}
 use Rattle.bc_steps.proofs.lemmas.OwnFollowerLemmas.{turns-few, turns-same}
-use Rattle.bc_steps.proofs.lemmas.ServedFollowerLemmas.{HasMadeFollower, follower-served, made-follower, place-follower, served-at}
+use Rattle.bc_steps.proofs.lemmas.ServedFollowerLemmas.{HasMadeFollower, follower-served, made-follower, place-follower}
 use Rattle.bc_steps.proofs.lemmas.ServedPortLemmas.{entry_of}
 use Rattle.bc_steps.proofs.follower.actor.FollowerActor.serve.Goals as goal
-
-pub event-requires-clause-own : goal.event-requires-clause-own
-event-requires-clause-own c = served-at c.args.self.now.place c.args.input c.requires.next
 
 pub turns_served-self-inside-requires : goal.turns_served-self-inside-requires
 turns_served-self-inside-requires c =

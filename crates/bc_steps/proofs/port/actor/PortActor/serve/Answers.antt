@@ -9,7 +9,7 @@ use Rattle.hub_core.specs.HubView.{HubState}
 use Rattle.bc_steps.specs.ActorView.{ActorState, IsLevel}
 use Rattle.bc_steps.specs.PortActors.{port_actor_view}
 use Rattle.bc_steps.specs.declared.port.actor.PortActor.TheInside.{Inside}
-use Rattle.bc_steps.proofs.lemmas.ServedPortLemmas.{HasMade, actor-served, entry_of, place-served, served, served-own}
+use Rattle.bc_steps.proofs.lemmas.ServedPortLemmas.{HasMade, actor-served, entry_of, place-served, served}
 use Rattle.bc_steps.proofs.port.actor.PortActor.serve.Goals as goal
 
 -- the actor after the event
@@ -49,11 +49,6 @@ made c = record {
   askable = c.take_measure-self-inside.ensures.askable;
   records = c.take_next.ensures;
 }
-
-pub event-requires-clause-own : goal.event-requires-clause-own
-event-requires-clause-own c =
-    served-own c.self.inside.number c.args.input
-    (subst (λ (w : Who). is_same_actor w (actor_of c.args.input) ≡ true) (sym (ap (λ (a : ActorState). a.who) c.self.view_is)) c.requires.own)
 
 pub invariant_of-self : goal.invariant_of-self
 invariant_of-self c =

@@ -1,4 +1,4 @@
--- The entry of a follower: ports, data sets and roles stay, but for the moment.
+-- The entry of a follower or of a query: ports, data sets and roles stay, but for the moment.
 use Rattle.std.proofs.Common.{◌≡◌, ℕ, ◌+◌, ◌<◌, ◌≤◌, Bool, true, false, cond, max, List, [], ◌∷◌, ◌++◌, length, reverse, refl, sym, ap, subst, ◌∙◌, arith, eq-eqb, Option, Some, None}
 use Rattle.std.specs.Prelude.{not, slice_get, IsSomeAnd}
 use Rattle.std.proofs.lemmas.List.FromFn.{length-map-range_with_len}
@@ -28,7 +28,7 @@ use Rattle.bc_history.specs.declared.scenario.Options.{Options}
 use Rattle.bc_history.specs.declared.scenario.Scenario.{Scenario}
 use Rattle.bc_history.specs.Phases.EntryEffects.{changed_parent, effects_of, entry_after, entry_fate, entry_frames, event, moves_from, moves_of_port, told_by}
 use Rattle.bc_history.specs.Phases.HubPort.{HubPort}
-use Rattle.bc_history.specs.Phases.Inputs.{is_read, tick_of}
+use Rattle.bc_history.specs.Phases.Inputs.{is_read, port_of, tick_of}
 use Rattle.bc_history.specs.Phases.NoticePhase.{after_notices, after_posting_from, after_turn}
 use Rattle.bc_history.specs.Phases.QueryAnswers.{answers_at, asked_at}
 use Rattle.bc_history.specs.Phases.RolePhase.{after_roles, clocks_of, edges_now, orders_now, states_of}
@@ -42,33 +42,31 @@ use Rattle.bc_notices.proofs.lemmas.FollowersLemmas.{FollowersRepresent-length, 
 use Rattle.bc_ports.specs.declared.boundary_clock.BoundaryClock.{BoundaryClock}
 use Rattle.bc_ports.specs.Representation.{ClockRepresents, IsSound}
 use Rattle.bc_roles.specs.RolesView.{RolesRepresent}
-use Rattle.hub_core.specs.EffectParts.{follower_entry}
+use Rattle.hub_core.specs.EffectParts.{follower_entry, portless_entry}
 use Rattle.hub_core.specs.FollowerInputs.{IsTurnerThere, is_of_follower}
 use Rattle.hub_core.specs.HubParts.{PartsRepresent}
 use Rattle.hub_core.specs.PortReading.{input_seen}
 use Rattle.hub_core.specs.declared.hub_parts.HubParts.{HubParts}
 
--- ---- what is not of a port and no query
+-- ---- what is not of a port
 
--- the input of a follower is no port's, comes with no reading, measures nothing, and nobody asks
-record IsUnported (o : Options) (h : State) (seen : Option Seen) (input : Input) (ports : List HubPort) : Type 0 where
+-- an input that is no port's comes with no reading, and measures nothing
+record IsUnported (h : State) (seen : Option Seen) (input : Input) (ports : List HubPort) : Type 0 where
   entry : port_entry h (event input seen) ≡ None
   read : is_read input ≡ false
   measure : measure_at (event input seen) ports ≡ None
-  asked : asked_at input ≡ None
-  answers : answers_at o h input ≡ []
 
-unported : (o : Options) (h : State) (seen : Option Seen) (input : Input) (ports : List HubPort) → is_of_follower input ≡ true → IsUnported o h seen input ports
-unported o h seen (Frame port tick octets) ports own = absurd (cc)
-unported o h seen (Timed port tick timer) ports own = absurd (cc)
-unported o h seen (Down port tick) ports own = absurd (cc)
-unported o h seen (Up port tick) ports own = absurd (cc)
-unported o h seen (Report port tick gener action outcome) ports own = absurd (cc)
-unported o h seen (Turn clock tick) ports own = record { entry = refl; read = refl; measure = refl; asked = refl; answers = refl }
-unported o h seen (Sampled clock tick lead theirs ours action outcome) ports own = record { entry = refl; read = refl; measure = refl; asked = refl; answers = refl }
-unported o h seen (Query tick text) ports own = absurd (cc)
+unported : (h : State) (seen : Option Seen) (input : Input) (ports : List HubPort) → port_of input ≡ None → IsUnported h seen input ports
+unported h seen (Frame port tick octets) ports own = absurd (cc)
+unported h seen (Timed port tick timer) ports own = absurd (cc)
+unported h seen (Down port tick) ports own = absurd (cc)
+unported h seen (Up port tick) ports own = absurd (cc)
+unported h seen (Report port tick gener action outcome) ports own = absurd (cc)
+unported h seen (Turn clock tick) ports own = record { entry = refl; read = refl; measure = refl }
+unported h seen (Sampled clock tick lead theirs ours action outcome) ports own = record { entry = refl; read = refl; measure = refl }
+unported h seen (Query tick text) ports own = record { entry = refl; read = refl; measure = refl }
 
-pub unread : (s : Scenario) (logs : List (List LogEntry)) (input : Input) → is_of_follower input ≡ true → input_seen s logs input ≡ None
+pub unread : (s : Scenario) (logs : List (List LogEntry)) (input : Input) → port_of input ≡ None → input_seen s logs input ≡ None
 unread s logs (Frame port tick octets) own = absurd (cc)
 unread s logs (Timed port tick timer) own = absurd (cc)
 unread s logs (Down port tick) own = absurd (cc)
@@ -76,7 +74,33 @@ unread s logs (Up port tick) own = absurd (cc)
 unread s logs (Report port tick gener action outcome) own = absurd (cc)
 unread s logs (Turn clock tick) own = refl
 unread s logs (Sampled clock tick lead theirs ours action outcome) own = refl
-unread s logs (Query tick text) own = absurd (cc)
+unread s logs (Query tick text) own = refl
+
+-- a follower asks nothing and is answered nothing
+record IsUnasked (o : Options) (h : State) (input : Input) : Type 0 where
+  asked : asked_at input ≡ None
+  answers : answers_at o h input ≡ []
+
+unasked : (o : Options) (h : State) (input : Input) → is_of_follower input ≡ true → IsUnasked o h input
+unasked o h (Frame port tick octets) own = absurd (cc)
+unasked o h (Timed port tick timer) own = absurd (cc)
+unasked o h (Down port tick) own = absurd (cc)
+unasked o h (Up port tick) own = absurd (cc)
+unasked o h (Report port tick gener action outcome) own = absurd (cc)
+unasked o h (Turn clock tick) own = record { asked = refl; answers = refl }
+unasked o h (Sampled clock tick lead theirs ours action outcome) own = record { asked = refl; answers = refl }
+unasked o h (Query tick text) own = absurd (cc)
+
+-- the input of a follower is no port's
+pub portless : (input : Input) → is_of_follower input ≡ true → port_of input ≡ None
+portless (Frame port tick octets) own = absurd (cc)
+portless (Timed port tick timer) own = absurd (cc)
+portless (Down port tick) own = absurd (cc)
+portless (Up port tick) own = absurd (cc)
+portless (Report port tick gener action outcome) own = absurd (cc)
+portless (Turn clock tick) own = refl
+portless (Sampled clock tick lead theirs ours action outcome) own = refl
+portless (Query tick text) own = absurd (cc)
 
 -- ---- the phases
 
@@ -128,7 +152,7 @@ no-moves p (state ∷ states) = rw (no-move p state, no-moves (p + 1) states) re
 same-parent : (p : PortId) → changed_parent p p ≡ None
 same-parent p = rw (eq-eqb p.clock.id p.clock.id refl, eq-eqb p.port p.port refl) refl
 
--- what a follower's entry leaves of the history's state
+-- what an entry that is no port's leaves of the history's state
 pub record IsFollowed (o : Options) (h new : State) (input : Input) : Type 0 where
   pub core : new.core ≡ at_moment (tick_of input) h.core
   pub roles : new.roles ≡ h.roles
@@ -150,14 +174,14 @@ followers-same s entries input none =
     let c = core_after s.options h (event input None) in
     ap (λ (r : Roles). after_notices s.options c h.roles r h.followers) (roles-after s entries input none) ∙ no-notices s.options c h.roles h.followers
 
-pub followed : (s : Scenario) (entries : List Entry) (input : Input) → is_of_follower input ≡ true
+pub followed : (s : Scenario) (entries : List Entry) (input : Input) → port_of input ≡ None
     → IsFollowed s.options (state_of s entries) (step s.options (state_of s entries) (event input None)) input
 unfolding step
 followed s entries input own =
     let o = s.options in
     let h = state_of s entries in
     let ev : Event = event input None in
-    let is = unported o h None input (core_after o h ev).ports own in
+    let is = unported h None input (core_after o h ev).ports own in
     let roles = roles-after s entries input is.entry in
     let between = followers-same s entries input is.entry in
     record {
@@ -180,17 +204,18 @@ same-entry : (input : Input) (moment moment' : ℕ) (fate fate' : Option Fate) (
 same-entry input moment moment' fate fate' states states' parent parent' orders orders' measure measure' frames frames' told told' asked asked' answers answers' m f s p o x y t a w =
     rw (m, f, s, p, o, x, y, t, a, w) refl
 
--- it tells what its follower is told, and nothing else
-pub follower-entry : (s : Scenario) (entries : List Entry) (input : Input) → is_of_follower input ≡ true
+-- it tells what its follower is told, what it asks and what answers it, and nothing else
+pub portless-entry : (s : Scenario) (entries : List Entry) (input : Input) → port_of input ≡ None
     → entry_after s entries input None
-    ≡ follower_entry input (max (state_of s entries).core.moment (tick_of input)) (told_by s.options (at_moment (tick_of input) (state_of s entries).core) (state_of s entries).roles input (state_of s entries).followers)
+    ≡ portless_entry input (max (state_of s entries).core.moment (tick_of input)) (told_by s.options (at_moment (tick_of input) (state_of s entries).core) (state_of s entries).roles input (state_of s entries).followers)
+    (asked_at input) (answers_at s.options (state_of s entries) input)
 unfolding entry_after effects_of
-follower-entry s entries input own =
+portless-entry s entries input own =
     let o = s.options in
     let h = state_of s entries in
     let ev : Event = event input None in
     let at = at_moment (tick_of input) h.core in
-    let is = unported o h None input (core_after o h ev).ports own in
+    let is = unported h None input (core_after o h ev).ports own in
     let goes = core-goes o h ev is.entry in
     let stays = core-stays o h ev is.entry in
     let roles = roles-after s entries input is.entry in
@@ -207,8 +232,21 @@ follower-entry s entries input own =
     (ap (λ (c : Core). told_by o c (roles_after o h ev) input (followers_between o h ev)) goes
     ∙ ap (λ (r : Roles). told_by o at r input (followers_between o h ev)) roles
     ∙ ap (λ (fs : List Follower). told_by o at h.roles input fs) between)
-    is.asked
-    is.answers
+    refl
+    refl
+
+-- that of a follower asks nothing
+pub follower-entry : (s : Scenario) (entries : List Entry) (input : Input) → is_of_follower input ≡ true
+    → entry_after s entries input None
+    ≡ follower_entry input (max (state_of s entries).core.moment (tick_of input)) (told_by s.options (at_moment (tick_of input) (state_of s entries).core) (state_of s entries).roles input (state_of s entries).followers)
+follower-entry s entries input own =
+    let h = state_of s entries in
+    let moment = max h.core.moment (tick_of input) in
+    let told = told_by s.options (at_moment (tick_of input) h.core) h.roles input h.followers in
+    let is = unasked s.options h input own in
+    portless-entry s entries input (portless input own)
+    ∙ ap (λ (a : Option AskError). portless_entry input moment told a (answers_at s.options h input)) is.asked
+    ∙ ap (λ (xs : List (List ℕ)). portless_entry input moment told None xs) is.answers
 
 -- ---- followers of the machine
 
@@ -251,7 +289,7 @@ state-next : (s : Scenario) (entries : List Entry) (input : Input) → state_of 
 unfolding state_of entry_after
 state-next s entries input = refl
 
-pub machine-followed : (s : Scenario) (entries : List Entry) (input : Input) (m : HubParts) (core : BoundaryClock) (notices : NoticesView) → is_of_follower input ≡ true → PartsRepresent s m (state_of s entries)
+pub machine-followed : (s : Scenario) (entries : List Entry) (input : Input) (m : HubParts) (core : BoundaryClock) (notices : NoticesView) → port_of input ≡ None → PartsRepresent s m (state_of s entries)
     → IsSound core → core.ports.len ≡ m.core.ports.len → ClockRepresents s.options core (at_moment (tick_of input) (state_of s entries).core) (state_of s entries).measured
     → NoticesRepresent s.options notices (after_turn s.options (at_moment (tick_of input) (state_of s entries).core) (state_of s entries).roles input (state_of s entries).followers)
     → PartsRepresent s (record { port_clocks = m.port_clocks; core = core; roles = m.roles; states = m.states; notices = notices; drafts = m.drafts }) (state_of s (entry_after s entries input None ∷ entries))
