@@ -1,1 +1,11 @@
+pub mod NextLines
 pub mod PrintedLines
+pub mod RunLines
+pub mod ShownLines
+pub mod TranscriptFaults
+pub mod TranscriptLines
+pub mod TypedLines
+pub mod TypedRuns
+pub mod WordReaders
+pub mod LineReaders
+pub mod FormedTests

@@ -3,6 +3,7 @@ ghost use Rattle.bstr.specs.Text.{lines_of};
 ghost use Rattle.bc_history.specs.Run.Transcript.{answer_lines, answers_text, indented};
 ghost use Rattle.transcript.specs.PrintedLines.{answer_text, margined};
 
+use crate::line_text;
 use crate::writer::Writer;
 use bstr::ByteSlice;
 use pmc_query::shows;
@@ -22,8 +23,7 @@ pub fn push_answers(out: &mut Writer, answers: &[Octets]) -> Result<(), NoMemory
 fn push_answer(out: &mut Writer, answer: &Octets) -> Result<(), NoMemory>
     ensures { OnOk result (out.new ≡ out.old ++ answer_text answer.now) }
 {
-    write!(out, "  answer ")?;
-    out.hex(answer.items())?;
+    line_text::push_answer(out, answer)?;
     write!(out, "\n")?;
     push_printed(out, answer.items())?;
     Ok(())

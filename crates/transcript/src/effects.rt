@@ -1,32 +1,37 @@
+//! The lines of what follows from an input, each with its newline.
+
 ghost use Rattle.std.specs.Prelude.{◌≡◌, ℕ, List, ◌++◌, OnOk};
-ghost use Rattle.bc_history.specs.Run.Transcript.{fate_text, moved_text, moves_text, parent_text, orders_text, measure_text, frames_text, lead_text, told_text, asked_text, effects_text};
+ghost use Rattle.bc_history.specs.Run.Transcript.{fate_text, moved_text, moves_text, parent_text, orders_text, measure_text, frames_text, told_text, asked_text, effects_text};
 ghost use Rattle.transcript.specs.PrintedLines.{order_text, frame_text};
 
 use crate::answers::push_answers;
-use crate::names::{asked_name, fate_name};
+use crate::line_text;
 use crate::writer::Writer;
 use bc_history::{AskError, Effects, Moved, Sent, Told};
-use pmc_query::state_name;
 use ptp_base::{NoMemory, PortId};
-use ptp_profile::{Fate, Held, Lead, Measure, RoleOrder};
+use ptp_profile::{Fate, Held, Measure, RoleOrder};
 
 /// Adds the line of what became of a frame, if there is one.
+#[tactic(auto, unfolding(crate::specs::TranscriptLines::line_text))]
 fn push_fate(out: &mut Writer, fate: &Option<Fate>) -> Result<(), NoMemory>
     ensures { OnOk result (out.new ≡ out.old ++ fate_text fate.now) }
 {
     match fate {
         None => Ok(()),
-        Some(fate) => write!(out, "  fate {}\n", fate_name(fate)),
+        Some(fate) => {
+            line_text::push_fate(out, fate)?;
+            write!(out, "\n")
+        }
     }
 }
 
 /// Adds the line of a change of a port's state.
+#[tactic(auto, unfolding(crate::specs::TranscriptLines::line_text))]
 fn push_moved(out: &mut Writer, moved: &Moved) -> Result<(), NoMemory>
     ensures { OnOk result (out.new ≡ out.old ++ moved_text moved.now) }
 {
-    let old = state_name(&moved.old);
-    let new = state_name(&moved.new);
-    write!(out, "  state {} {old} {new}\n", moved.port)
+    line_text::push_moved(out, moved)?;
+    write!(out, "\n")
 }
 
 /// Adds the lines of changes of state.
@@ -40,30 +45,26 @@ fn push_moves(out: &mut Writer, moves: &[Moved]) -> Result<(), NoMemory>
 }
 
 /// Adds the line of a new parent, if there is one.
+#[tactic(auto, unfolding(crate::specs::TranscriptLines::line_text))]
 fn push_parent(out: &mut Writer, parent: &Option<PortId>) -> Result<(), NoMemory>
     ensures { OnOk result (out.new ≡ out.old ++ parent_text parent.now) }
 {
     match parent {
         None => Ok(()),
         Some(parent) => {
-            write!(out, "  parent ")?;
-            out.port(parent)?;
-            write!(out, "\n")?;
-            Ok(())
+            line_text::push_parent(out, parent)?;
+            write!(out, "\n")
         }
     }
 }
 
 /// Adds the line of an order.
-#[tactic(auto, unfolding(crate::specs::PrintedLines::order_text))]
+#[tactic(auto, unfolding(crate::specs::PrintedLines::order_text, crate::specs::TranscriptLines::line_text))]
 fn push_order(out: &mut Writer, order: &RoleOrder) -> Result<(), NoMemory>
     ensures { OnOk result (out.new ≡ out.old ++ order_text order.now) }
 {
-    write!(
-        out,
-        "  order {} {} {}\n",
-        order.clock, order.gener, order.ctrl
-    )
+    line_text::push_order(out, order)?;
+    write!(out, "\n")
 }
 
 /// Adds the lines of orders.
@@ -77,29 +78,25 @@ fn push_orders(out: &mut Writer, orders: &[RoleOrder]) -> Result<(), NoMemory>
 }
 
 /// Adds the line of a measure and the stamp that it was made under, if there is one.
+#[tactic(auto, unfolding(crate::specs::TranscriptLines::line_text))]
 fn push_measure(out: &mut Writer, measure: &Option<(Measure, Held)>) -> Result<(), NoMemory>
     ensures { OnOk result (out.new ≡ out.old ++ measure_text measure.now) }
 {
     match measure {
         None => Ok(()),
         Some((measure, held)) => {
-            write!(out, "  measure {} {} ", held.gener, held.clock)?;
-            write!(
-                out,
-                "{} {} {}\n",
-                measure.offset, measure.delay, measure.local
-            )
+            line_text::push_measure(out, measure, &held.gener, &held.clock)?;
+            write!(out, "\n")
         }
     }
 }
 
 /// Adds the line of a frame that was sent.
-#[tactic(auto, unfolding(crate::specs::PrintedLines::frame_text))]
+#[tactic(auto, unfolding(crate::specs::PrintedLines::frame_text, crate::specs::TranscriptLines::line_text))]
 fn push_frame(out: &mut Writer, sent: &Sent) -> Result<(), NoMemory>
     ensures { OnOk result (out.new ≡ out.old ++ frame_text sent.now) }
 {
-    write!(out, "  send {} ", sent.port)?;
-    out.hex(sent.octets.items())?;
+    line_text::push_sent(out, sent)?;
     write!(out, "\n")
 }
 
@@ -113,37 +110,31 @@ fn push_frames(out: &mut Writer, frames: &[Sent]) -> Result<(), NoMemory>
     Ok(())
 }
 
-/// Adds a lead, or that there is none.
-fn push_lead(out: &mut Writer, lead: &Option<Lead>) -> Result<(), NoMemory>
-    ensures { OnOk result (out.new ≡ out.old ++ lead_text lead.now) }
-{
-    match lead {
-        None => write!(out, "none"),
-        Some(lead) => write!(out, "{} {}", lead.gener, lead.source),
-    }
-}
-
 /// Adds the line of what a follower was told, if it was told anything.
+#[tactic(auto, unfolding(crate::specs::TranscriptLines::line_text))]
 fn push_told(out: &mut Writer, told: &Option<Told>) -> Result<(), NoMemory>
     ensures { OnOk result (out.new ≡ out.old ++ told_text told.now) }
 {
     match told {
         None => Ok(()),
         Some(told) => {
-            write!(out, "  told ")?;
-            push_lead(out, &told.lead)?;
-            write!(out, " missed {}\n", told.missed)
+            line_text::push_told(out, told)?;
+            write!(out, "\n")
         }
     }
 }
 
 /// Adds the line of why a query made no request, if it made none.
+#[tactic(auto, unfolding(crate::specs::TranscriptLines::line_text))]
 fn push_asked(out: &mut Writer, asked: &Option<AskError>) -> Result<(), NoMemory>
     ensures { OnOk result (out.new ≡ out.old ++ asked_text asked.now) }
 {
     match asked {
         None => Ok(()),
-        Some(error) => write!(out, "  asked {}\n", asked_name(error)),
+        Some(error) => {
+            line_text::push_asked(out, error)?;
+            write!(out, "\n")
+        }
     }
 }
 

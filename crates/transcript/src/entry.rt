@@ -2,7 +2,7 @@ ghost use Rattle.std.specs.Prelude.{◌≡◌, ℕ, List, ◌++◌, OnOk};
 ghost use Rattle.bc_history.specs.Run.Transcript.{entry_text, entries_text};
 
 use crate::effects::push_effects;
-use crate::input::{push_input, push_seen};
+use crate::line_text;
 use crate::writer::Writer;
 use bc_history::Entry;
 use ptp_base::NoMemory;
@@ -11,9 +11,13 @@ use ptp_base::NoMemory;
 fn push_entry(out: &mut Writer, number: usize, entry: &Entry) -> Result<(), NoMemory>
     ensures { OnOk result (out.new ≡ out.old ++ entry_text number entry.now) }
 {
-    write!(out, "event {number} {} ", entry.moment)?;
-    push_input(out, &entry.input)?;
-    push_seen(out, &entry.seen)?;
+    line_text::push_event(
+        out,
+        &(number as u64),
+        &entry.moment,
+        &entry.input,
+        &entry.seen,
+    )?;
     write!(out, "\n")?;
     push_effects(out, &entry.effects)?;
     Ok(())

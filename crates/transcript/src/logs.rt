@@ -1,13 +1,13 @@
-ghost use Rattle.std.specs.Prelude.{◌≡◌, ℕ, pos, List, ◌++◌, OnOk};
-ghost use Rattle.std.specs.Fmt.{signed_decimal};
-ghost use Rattle.ptp_base.specs.Floor.{floor_of};
-ghost use Rattle.bc_history.specs.Run.Transcript.{log_entry_text, log_entries_text, drift_text, log_text, logs_text};
+ghost use Rattle.std.specs.Prelude.{◌≡◌, ℕ, List, ◌++◌, OnOk};
+ghost use Rattle.bc_history.specs.Run.Transcript.{log_entry_text, log_entries_text, log_text, logs_text};
 
+use crate::line_text;
 use crate::writer::Writer;
 use ptp_base::NoMemory;
 use ptp_profile::{Log, LogEntry};
 
 /// Adds the line of an entry of a clock's log.
+#[tactic(auto, unfolding(crate::specs::TranscriptLines::line_text))]
 fn push_log_entry(
     out: &mut Writer,
     clock: u8,
@@ -16,21 +16,8 @@ fn push_log_entry(
 ) -> Result<(), NoMemory>
     ensures { OnOk result (out.new ≡ out.old ++ log_entry_text clock number entry.now) }
 {
-    match entry {
-        LogEntry::Order { gener, ctrl } => {
-            write!(out, "log {clock} {number} order {gener} {ctrl}\n")
-        }
-        LogEntry::Change {
-            gener,
-            ctrl,
-            tick,
-            step,
-            freq,
-        } => write!(
-            out,
-            "log {clock} {number} change {gener} {ctrl} {tick} {step} {freq}\n"
-        ),
-    }
+    line_text::push_logged(out, &clock, &(number as u64), entry)?;
+    write!(out, "\n")
 }
 
 /// Adds the lines of the entries of a clock's log, numbered from 1.
@@ -43,20 +30,12 @@ fn push_log_entries(out: &mut Writer, clock: u8, entries: &[LogEntry]) -> Result
     Ok(())
 }
 
-/// Adds a drift, in ppb.
-fn push_drift(out: &mut Writer, drift: &i64) -> Result<(), NoMemory>
-    ensures { OnOk result (out.new ≡ out.old ++ signed_decimal (floor_of drift.now (pos 65536))) }
-{
-    let ppb = drift.div_euclid(65536);
-    write!(out, "{ppb}")
-}
-
 /// Adds the lines of a clock: how it began, and its log.
 fn push_log(out: &mut Writer, log: &Log) -> Result<(), NoMemory>
     ensures { OnOk result (out.new ≡ out.old ++ log_text log.now) }
 {
-    write!(out, "clock {} {} ", log.clock, log.opening.time)?;
-    push_drift(out, &log.opening.drift)?;
+    let opening = &log.opening;
+    line_text::push_clock(out, &log.clock, &opening.time, &opening.drift)?;
     write!(out, "\n")?;
     push_log_entries(out, log.clock, log.entries.items())?;
     Ok(())

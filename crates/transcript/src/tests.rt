@@ -1,4 +1,4 @@
-use crate::transcript;
+use crate::write;
 use bc_history::{AskError, Effects, Entry, Input, Moved, Outcome, Run, Seen, Sent, Told};
 use model_clock::ClockState;
 use ptp_base::{ClockId, Items, Octets, PortId, PortState};
@@ -244,7 +244,8 @@ fn run(alloc: Global) -> Result<Run, Fail> {
 #[test]
 fn each_input_and_effect_is_written(rt: HostRuntime) -> Result<(), Fail> {
     let run = run(rt.alloc())?;
-    let text = transcript(rt.alloc(), &run).ok().ok_or("transcript")?;
+    let mut text = Octets::new(rt.alloc());
+    write(rt.alloc(), &run, &mut text).ok().ok_or("transcript")?;
     assert_eq!(rt; text.items(), OUT);
     Ok(())
 }
@@ -275,7 +276,8 @@ fn an_answer_that_is_shown_prints_its_lines(rt: HostRuntime) -> Result<(), Fail>
         entries: Items::from_vec(vec![in alloc; entry]?),
         logs: Items::new(alloc),
     };
-    let text = transcript(alloc, &run).ok().ok_or("transcript")?;
+    let mut text = Octets::new(alloc);
+    write(alloc, &run, &mut text).ok().ok_or("transcript")?;
     assert_eq!(rt; text.items(), SHOWN);
     Ok(())
 }

@@ -2,7 +2,7 @@
 use Rattle.std.proofs.Common.{◌≡◌, ◌≢◌, ℕ, zero, suc, ◌+◌, ◌/◌, ◌%◌, ◌<◌, ℤ, pos, negsuc, Bool, true, false, cond, eqb, ltb, refl, sym, ap, ◌∙◌, arith, List, [], ◌∷◌, ◌++◌, length, take, drop, Option, Some, None, codes, eq-eqb, ne_eqb, append_assoc}
 use Rattle.std.specs.Prelude.{slice_index}
 use Rattle.std.specs.Fmt.{decimal, signed_decimal, digits, digits_onto, digit_glyph}
-use Rattle.std.proofs.lemmas.Bool.{false≢true, cond-false}
+use Rattle.std.proofs.lemmas.Bool.{false≢true, cond-false, ltb-true}
 use Rattle.bstr.specs.Text.{line_len, lines_of}
 use Rattle.bstr.proofs.lemmas.LineLemmas.{lines-nil, lines-step}
 use Rattle.byteorder.specs.Endian.{big_bytes, big_number, twos_complement}
@@ -31,30 +31,35 @@ use Rattle.transcript.specs.PrintedLines.{margined}
 
 -- ---- lines
 
--- no newline
+-- an octet other than a newline
+abbrev pub IsLineOctet : ℕ → Type 0
+IsLineOctet x = (x ≢ 10) × (x < 256)
+
+-- octets, and no newline
 abbrev pub IsLine : List ℕ → Type 0
 IsLine [] = Unit {0}
-IsLine (x ∷ xs) = (x ≢ 10) × IsLine xs
+IsLine (x ∷ xs) = IsLineOctet x × IsLine xs
 
 abbrev pub AreLines : List (List ℕ) → Type 0
 AreLines [] = Unit {0}
 AreLines (line ∷ lines) = IsLine line × AreLines lines
 
 -- the same as a test
-abbrev is_line : List ℕ → Bool
+abbrev pub is_line : List ℕ → Bool
 is_line [] = true
-is_line (x ∷ xs) = cond (eqb x 10) false (is_line xs)
+is_line (x ∷ xs) = cond (eqb x 10) false (cond (ltb x 256) (is_line xs) false)
 
-line_by : (b : Bool) (x : ℕ) (xs : List ℕ) → eqb x 10 ≡ b → (is_line xs ≡ true → IsLine xs) → cond b false (is_line xs) ≡ true
+line_by : (b c : Bool) (x : ℕ) (xs : List ℕ) → eqb x 10 ≡ b → ltb x 256 ≡ c → (is_line xs ≡ true → IsLine xs) → cond b false (cond c (is_line xs) false) ≡ true
     → IsLine (x ∷ xs)
-line_by true x xs is rest h = absurd (false≢true h)
-line_by false x xs is rest h = (λ e. false≢true (sym is ∙ eq-eqb x 10 e), rest h)
+line_by true c x xs is below rest h = absurd (false≢true h)
+line_by false false x xs is below rest h = absurd (false≢true h)
+line_by false true x xs is below rest h = (((λ e. false≢true (sym is ∙ eq-eqb x 10 e)), ltb-true x 256 below), rest h)
 
-line-tested : (xs : List ℕ) → is_line xs ≡ true → IsLine xs
+pub line-tested : (xs : List ℕ) → is_line xs ≡ true → IsLine xs
 line-tested [] h = tt
-line-tested (x ∷ xs) h = line_by (eqb x 10) x xs refl (line-tested xs) h
+line-tested (x ∷ xs) h = line_by (eqb x 10) (ltb x 256) x xs refl refl (line-tested xs) h
 
-line-append : (xs ys : List ℕ) → IsLine xs → IsLine ys → IsLine (xs ++ ys)
+pub line-append : (xs ys : List ℕ) → IsLine xs → IsLine ys → IsLine (xs ++ ys)
 line-append [] ys a b = b
 line-append (x ∷ xs) ys a b = (a.0, line-append xs ys a.1 b)
 
@@ -74,30 +79,31 @@ line-drop (suc n) (x ∷ xs) a = line-drop n xs a.1
 
 -- ---- numbers
 
-glyph-plain : (b : Bool) (d : ℕ) → cond b (48 + d) (87 + d) ≢ 10
-glyph-plain true d = λ e. absurd (omega (arith, e))
-glyph-plain false d = λ e. absurd (omega (arith, e))
+glyph-plain : (b : Bool) (d : ℕ) → d < 100 → IsLineOctet (cond b (48 + d) (87 + d))
+glyph-plain true d small = ((λ e. absurd (omega (arith, e))), omega (arith, small))
+glyph-plain false d small = ((λ e. absurd (omega (arith, e))), omega (arith, small))
 
 line-if : (b : Bool) (xs ys : List ℕ) → IsLine xs → IsLine ys → IsLine (cond b xs ys)
 line-if true xs ys a b = a
 line-if false xs ys a b = b
 
-line-digits_onto : (k base n : ℕ) (acc : List ℕ) → IsLine acc → IsLine (digits_onto k base false n acc)
-line-digits_onto zero base n acc a = a
-line-digits_onto (suc k) base n acc a =
-    let more : IsLine (digit_glyph false (n % base) ∷ acc) = (glyph-plain (ltb (n % base) 10) (n % base), a) in
-    line-if (eqb (n / base) 0) _ _ more (line-digits_onto k base (n / base) (digit_glyph false (n % base) ∷ acc) more)
+line-digits_onto : (k n : ℕ) (acc : List ℕ) → IsLine acc → IsLine (digits_onto k 10 false n acc)
+line-digits_onto zero n acc a = a
+line-digits_onto (suc k) n acc a =
+    let small : n % 10 < 100 = omega arith in
+    let more : IsLine (digit_glyph false (n % 10) ∷ acc) = (glyph-plain (ltb (n % 10) 10) (n % 10) small, a) in
+    line-if (eqb (n / 10) 0) _ _ more (line-digits_onto k (n / 10) (digit_glyph false (n % 10) ∷ acc) more)
 
-line-decimal : (n : ℕ) → IsLine (decimal n)
+pub line-decimal : (n : ℕ) → IsLine (decimal n)
 unfolding digits
-line-decimal n = line-digits_onto 64 10 n [] tt
+line-decimal n = line-digits_onto 64 n [] tt
 
-line-signed : (z : ℤ) → IsLine (signed_decimal z)
+pub line-signed : (z : ℤ) → IsLine (signed_decimal z)
 line-signed (pos n) = line-decimal n
-line-signed (negsuc n) = (λ e. absurd (omega (arith, e)), line-decimal (suc n))
+line-signed (negsuc n) = (((λ e. absurd (omega (arith, e))), omega arith), line-decimal (suc n))
 
-index-plain : (xs : List ℕ) (i : ℕ) → IsLine xs → slice_index xs i ≢ 10
-index-plain [] i a = λ e. absurd (omega (arith, e))
+index-plain : (xs : List ℕ) (i : ℕ) → IsLine xs → IsLineOctet (slice_index xs i)
+index-plain [] i a = ((λ e. absurd (omega (arith, e))), omega arith)
 index-plain (x ∷ xs) zero a = a.0
 index-plain (x ∷ xs) (suc i) a = index-plain xs i a.1
 
@@ -106,7 +112,7 @@ unfolding encode_with
 line-encode_with table [] a = tt
 line-encode_with table (x ∷ xs) a = (index-plain table (x / 16) a, (index-plain table (x % 16) a, line-encode_with table xs a))
 
-line-hex : (xs : List ℕ) → IsLine (encode_lower xs)
+pub line-hex : (xs : List ℕ) → IsLine (encode_lower xs)
 line-hex xs = line-encode_with lower_digits xs (line-tested lower_digits refl)
 
 -- ---- names
@@ -120,12 +126,12 @@ line-identity octets =
     (line-append (take 4 (drop 6 digits)) _ (line-take 4 (drop 6 digits) (line-drop 6 digits hex))
     (line-append (codes ".") _ dot (line-drop 10 digits hex))))
 
-line-port : (p : PortId) → IsLine (port_text p)
+pub line-port : (p : PortId) → IsLine (port_text p)
 line-port p =
     line-append (identity_text (encode_lower (big_bytes 8 p.clock.id))) _ (line-identity (big_bytes 8 p.clock.id))
     (line-append (codes "-") _ (line-tested (codes "-") refl) (line-decimal p.port))
 
-line-state : (s : PortState) → IsLine (state_name s)
+pub line-state : (s : PortState) → IsLine (state_name s)
 line-state Initializing = line-tested (codes "INITIALIZING") refl
 line-state Faulty = line-tested (codes "FAULTY") refl
 line-state Disabled = line-tested (codes "DISABLED") refl
@@ -271,7 +277,7 @@ lines-printed b = lines-message (managed_read (slice_index b 4) b)
 line_len-line : (line rest : List ℕ) → IsLine line → line_len (line ++ 10 ∷ rest) ≡ suc (length line)
 unfolding line_len
 line_len-line [] rest a = refl
-line_len-line (x ∷ line) rest a = cond-false _ _ _ (ne_eqb x 10 a.0) ∙ ap suc (line_len-line line rest a.1)
+line_len-line (x ∷ line) rest a = cond-false _ _ _ (ne_eqb x 10 a.0.0) ∙ ap suc (line_len-line line rest a.1)
 
 take-line : (line rest : List ℕ) → take (suc (length line)) (line ++ 10 ∷ rest) ≡ line ++ 10 ∷ []
 take-line [] rest = refl
@@ -305,7 +311,8 @@ margined-lines (line ∷ lines) a =
 pub margined-printed : (b : List ℕ) → margined (lines_of (lines_text (printed_lines b))) ≡ indented (printed_lines b)
 margined-printed b = margined-lines (printed_lines b) (lines-printed b)
 
-shown_by : (b : List ℕ) (can : Bool) → can ≡ true → printed_lines b ≡ cond can (printed_lines b) []
+-- of an answer that can be printed
+pub shown_by : (b : List ℕ) (can : Bool) → can ≡ true → printed_lines b ≡ cond can (printed_lines b) []
 shown_by b true is = refl
 shown_by b false is = absurd (false≢true is)
 

@@ -3,5 +3,5 @@ use Rattle.transcript.proofs.entry.push_entry.Goals as goal
 
 pub returns : goal.returns
 returns c =
-    entry_lines c.args.number c.args.entry.now c.args.out.now c.write.new.self c.push_input.new.out c.push_seen.new.out c.write-2.new.self c.push_effects.new.out
-    c.in_ok-write.ensures c.in_ok-push_input.ensures c.in_ok-push_seen.ensures c.in_ok-write-2.ensures c.in_ok-push_effects.ensures
+    entry_lines c.args.number c.args.entry.now c.args.out.now c.push_event.new.out c.write.new.self c.push_effects.new.out
+    c.in_ok-push_event.ensures c.in_ok-write.ensures c.in_ok-push_effects.ensures

@@ -1,0 +1,9 @@
+use Rattle.std.proofs.Common.{◌==◌, rules, tests}
+use Rattle.std.proofs.lemmas.Iterator.Consumers.{map_from_collect}
+use Rattle.std.proofs.lemmas.Iterator.Splits.{YieldsList-from_slice_split}
+use Rattle.transcript.proofs.words.Words.new.Goals as goal
+
+pub returns : goal.returns
+returns c =
+    let split = map_from_collect _ c.collect.ensures.ran (YieldsList-from_slice_split _ (λ octet. octet == 32) c.args.line.now c.split.ensures.rest c.split.ensures.done c.split.ensures.closure (λ x r q k. search (rules, tests))) in
+    rw c.in_ok-words.was at split
