@@ -3,15 +3,11 @@ ghost use Rattle.std.specs.Prelude.{◌≡◌, length};
 
 use bc_history::Scenario;
 use bc_top::{End, offline};
+use ptp_base::Octets;
 use std::alloc::Global;
 use std::test::Fail;
-use text_io::{MemSink, MemSource, Reason, SureSource};
-
-/// How a call ends at a scenario that is not served.
-pub const REFUSED: End = End::Refused {
-    line: 0,
-    reason: Reason::Unbuilt,
-};
+use text_io::{MemSink, MemSource, SureSource};
+use transcript::{read, write};
 
 /// A source with this text.
 pub fn source(alloc: Global, text: &[u8]) -> Result<MemSource, Fail> {
@@ -27,13 +23,25 @@ pub fn words(alloc: Global, line: &str) -> Result<Vec<String>, Fail> {
     Ok(words)
 }
 
-/// The whole transcript of a text.
+/// The whole transcript of a text, read back to its run, and the text of that run again. Nothing,
+/// where there is no transcript, or none that is read.
 pub fn transcript(alloc: Global, text: &str) -> Result<Vec<u8>, Fail> {
     let (end, out) = replayed(alloc, text)?;
     match end {
-        End::Done => Ok(out),
+        End::Done => written_again(alloc, &out),
         _ => Ok(Vec::new(alloc)),
     }
+}
+
+/// The text of the run that a transcript is read to; nothing, where it is read to none.
+fn written_again(alloc: Global, out: &[u8]) -> Result<Vec<u8>, Fail> {
+    let mut again = Octets::new(alloc);
+    if out.len() < 4_294_967_295 {
+        if let Ok(run) = read(alloc, out) {
+            write(alloc, &run, &mut again)?;
+        }
+    }
+    Ok(again.into_vec())
 }
 
 /// How a replay ends, and what it wrote.

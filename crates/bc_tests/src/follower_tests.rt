@@ -26,7 +26,7 @@ const BETTER: [&str; 2] = [
 ];
 
 /// A scenario of two ports on clocks of their own: these options, and more records and a schedule.
-fn two_clocks(alloc: Global, options: &str, more: &str) -> Result<String, Fail> {
+pub fn two_clocks(alloc: Global, options: &str, more: &str) -> Result<String, Fail> {
     Ok(format!(in alloc;
         "[global]\nboundary_clock_jbod 1\n{options}[clock 0]\n[clock 1]\n[port 1]\n[port 2 clock 1]\n{RECORDS}{more}"
     )?)

@@ -8,6 +8,10 @@ mod end_tests;
 #[cfg(test)]
 mod follower_tests;
 #[cfg(test)]
+mod query_tests;
+#[cfg(test)]
+mod reading_tests;
+#[cfg(test)]
 mod replay_tests;
 #[cfg(test)]
 mod steering_tests;

@@ -1,5 +1,5 @@
-//! What is refused, what is served, and where the events of a replay end.
-use crate::call::{REFUSED, port_count, source, words};
+//! What is refused, and where the events of a replay end.
+use crate::call::{port_count, source, words};
 use bc_config::scenario;
 use bc_top::{End, offline};
 use hub_core::Hub;
@@ -50,14 +50,7 @@ fn the_first_faulty_line_is_told(rt: HostRuntime) -> Result<(), Fail> {
 }
 
 #[test]
-fn a_query_is_refused(rt: HostRuntime) -> Result<(), Fail> {
-    let text = "[global]\nduration 1\n[port 1]\n[queries]\n5 GET DEFAULT_DATA_SET\n";
-    assert_eq!(rt; end_at(rt.alloc(), text.as_bytes())?, REFUSED);
-    Ok(())
-}
-
-#[test]
-fn what_stands_beside_it_is_built(rt: HostRuntime) -> Result<(), Fail> {
+fn sections_may_be_empty(rt: HostRuntime) -> Result<(), Fail> {
     for text in [
         "[global]\nduration 1\n[port 1]\n[queries]\n[schedule]\n",
         "[global]\nduration 1\nboundary_clock_jbod 1\n[clock 0]\n[clock 1]\n[port 1]\n[port 2 clock 1]\n",
