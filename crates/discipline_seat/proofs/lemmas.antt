@@ -15,3 +15,10 @@ pub mod ClockStateLemmas
 pub mod ControllerLemmas
 pub mod HeldOrderLemmas
 pub mod SeatEntryLemmas
+pub mod PlacedEntryLemmas
+pub mod WholeLogLemmas
+pub mod GatherLemmas
+pub mod EveryPassLemmas
+pub mod EntryAtLemmas
+pub mod ClosedLogLemmas
+pub mod CrewLemmas

@@ -5,3 +5,5 @@ pub mod SeatCalls
 pub mod SeatValue
 pub mod HubOrders
 pub mod SeatEntries
+pub mod WholeLogs
+pub mod CrewOrders

@@ -1,5 +1,5 @@
 -- The entries that a seat made, as it keeps them (project)
-use Rattle.std.specs.Prelude.{◌≡◌, ℕ, eqb, List, [], ◌∷◌, reverse}
+use Rattle.std.specs.Prelude.{◌≡◌, ℕ, ◌-◌, ◌<◌, ◌≤◌, eqb, max, List, [], ◌∷◌, reverse, slice_set}
 use Rattle.ptp_profile.specs.declared.seats.LogEntry.{LogEntry}
 use Rattle.discipline_seat.specs.declared.entries.Numbered.{Numbered}
 use Rattle.discipline_seat.specs.declared.view.Owner.TheVariants.{Hub}
@@ -22,3 +22,21 @@ KeepsReceipts entries view = (clock : ℕ) →
 abbrev pub KeepsOrders : List Numbered → View → Type 0
 KeepsOrders entries view = (clock : ℕ) →
     AreEntriesOf clock Hub (seen_log view clock) (entries_at clock (reverse entries))
+
+-- ---- entries and the places that they have in a log
+
+-- the largest of a number and those of the entries
+abbrev pub most_of : ℕ → List (ℕ × LogEntry) → ℕ
+most_of least [] = least
+most_of least (first ∷ entries) = max first.0 (most_of least entries)
+
+-- each number is one of so many places, which count from 1
+abbrev pub AreWithin : ℕ → List (ℕ × LogEntry) → Type 0
+AreWithin places [] = Unit {0}
+AreWithin places (first ∷ entries) =
+    (0 < first.0) × (first.0 ≤ places) × AreWithin places entries
+
+-- the places, the first of which is that of number 1, with each entry at the one of its number
+abbrev pub placed : List (ℕ × LogEntry) → List LogEntry → List LogEntry
+placed [] places = places
+placed (first ∷ entries) places = slice_set (placed entries places) (first.0 - 1) first.1

@@ -1,7 +1,9 @@
-ghost use Rattle.std.specs.Prelude.{◌≡◌, ◌-◌, ◌≤◌, [], ◌∷◌, ◌++◌, OnErr, OnOk};
+ghost use Rattle.std.specs.Prelude.{◌≡◌, ℕ, ◌-◌, ◌≤◌, [], ◌∷◌, ◌++◌, length, reverse, OnErr, OnOk};
+ghost use Rattle.ptp_profile.specs.Roles.SeatLogs.{log_at};
+ghost use Rattle.discipline_seat.specs.SeatEntries.{AreWithin, entries_at, most_of, placed};
 
 use ptp_base::NoMemory;
-use ptp_profile::LogEntry;
+use ptp_profile::{LogEntries, LogEntry};
 use std::alloc::Global;
 use std::marker::Model;
 
@@ -68,5 +70,32 @@ impl Entries {
     {
         self.items.push_reserved(entry);
         self.spare -= 1;
+    }
+
+    /// The largest of a number and those of the entries of a clock.
+    pub(crate) fn longest(&self, clock: u8, least: u32) -> u32
+        ensures { result ≡ most_of least (entries_at clock (reverse self.now.items)) }
+    {
+        let mut most = least;
+        for one in self.items.as_slice() {
+            if one.clock == clock {
+                most = one.number.max(most);
+            }
+        }
+        most
+    }
+
+    /// Puts each entry at the place of its number in the list of its clock.
+    pub(crate) fn fill(&self, logs: &mut Vec<LogEntries>)
+        requires { (clock : ℕ) → AreWithin (length (log_at logs.old.items clock))
+            (entries_at clock (reverse self.now.items)) }
+        ensures clocks { length logs.new.items ≡ length logs.old.items }
+        ensures placed { (clock : ℕ) → log_at logs.new.items clock
+            ≡ placed (entries_at clock (reverse self.now.items))
+            (log_at logs.old.items clock) }
+    {
+        for one in self.items.as_slice() {
+            logs[usize::from(one.clock)].set(one.number as usize - 1, one.entry);
+        }
     }
 }

@@ -1,15 +1,21 @@
-ghost use Rattle.std.specs.Prelude.{◌≡◌, ◌++◌, ◌∷◌, ◌<◌, ◌≤◌, [], length, OnErr, OnOk};
+ghost use Rattle.std.specs.Prelude.{◌≡◌, ℕ, ◌++◌, ◌∷◌, ◌<◌, ◌≤◌, [], length, OnErr, OnOk};
+ghost use Rattle.ptp_profile.specs.Roles.SeatLogs.{log_at};
+ghost use Rattle.discipline_seat.specs.Rule.SeatView.{seen_log};
+ghost use Rattle.discipline_seat.specs.Rule.Story.{receipts_of};
+ghost use Rattle.discipline_seat.specs.SeatEntries.{most_of, placed};
 ghost use Rattle.discipline_seat.specs.SeatValue.{IsFirst};
+ghost use Rattle.discipline_seat.specs.WholeLogs.{orders_of};
 
 use crate::entries::Entries;
 use crate::steps::Place;
 use ptp_base::NoMemory;
+use ptp_profile::LogEntries;
 use std::alloc::Global;
 use std::marker::Model;
 
-/// The seat of a port or of a clock's follower, which nobody else steps with, with the changes that it
-/// made. Contracts see its table, its view, which is what it has seen of each clock's log and its
-/// story, and for how many more changes it has places.
+/// The seat of a port or of a clock's follower, which nobody else steps with, with the changes that
+/// it made. Contracts see its table, its view, which is what it has seen of each clock's log and
+/// its story, and for how many more changes it has places.
 #[derive(Drop)]
 pub struct Pass {
     pub(crate) seat: Place,
@@ -48,11 +54,33 @@ impl Pass {
     {
         self.entries.reserve(more)
     }
+
+    /// The largest of a number and those of the pass's changes of a clock.
+    pub(crate) fn longest(&self, clock: u8, least: u32) -> u32
+        ensures { result ≡ most_of least (receipts_of clock self.now.view.stories.story) }
+    {
+        self.entries.longest(clock, least)
+    }
+
+    /// Puts each change of the pass at the place of its number in the list of its clock.
+    pub(crate) fn fill(&self, logs: &mut Vec<LogEntries>)
+        requires clocks { length logs.old.items ≡ length self.now.view.openings }
+        requires inside { (clock : ℕ) → clock < length logs.old.items →
+            most_of 0 (receipts_of clock self.now.view.stories.story)
+            ≤ length (log_at logs.old.items clock) }
+        ensures clocks { length logs.new.items ≡ length logs.old.items }
+        ensures placed { (clock : ℕ) → log_at logs.new.items clock
+            ≡ placed (receipts_of clock self.now.view.stories.story)
+            (log_at logs.old.items clock) }
+    {
+        self.entries.fill(logs);
+    }
 }
 
-/// The hub's seat, with the last stamp of each clock, so that an order is one addition, and the orders
-/// that it made. Contracts see its table, its view, which is what it has seen of each clock's log and
-/// the story that it was told of each pass, and for how many more orders it has places.
+/// The hub's seat, with the last stamp of each clock, so that an order is one addition, and the
+/// orders that it made. Contracts see its table, its view, which is what it has seen of each
+/// clock's log and the story that it was told of each pass, and for how many more orders it has
+/// places.
 #[derive(Drop)]
 pub struct HubSeat {
     pub(crate) seat: Place,
@@ -94,6 +122,27 @@ impl HubSeat {
         ensures err { OnErr result (self.new ≡ self.old) }
     {
         self.entries.reserve(more)
+    }
+
+    /// The largest of a number and those of the orders of a clock.
+    pub(crate) fn longest(&self, clock: u8, least: u32) -> u32
+        ensures { result ≡ most_of least (orders_of (seen_log self.now.view clock)) }
+    {
+        self.entries.longest(clock, least)
+    }
+
+    /// Puts each order at the place of its number in the list of its clock.
+    pub(crate) fn fill(&self, logs: &mut Vec<LogEntries>)
+        requires clocks { length logs.old.items ≡ length self.now.view.openings }
+        requires inside { (clock : ℕ) → clock < length logs.old.items →
+            most_of 0 (orders_of (seen_log self.now.view clock))
+            ≤ length (log_at logs.old.items clock) }
+        ensures clocks { length logs.new.items ≡ length logs.old.items }
+        ensures placed { (clock : ℕ) → log_at logs.new.items clock
+            ≡ placed (orders_of (seen_log self.now.view clock))
+            (log_at logs.old.items clock) }
+    {
+        self.entries.fill(logs);
     }
 }
 

@@ -126,7 +126,7 @@ impl Seats {
     }
 
     // How many clocks there are.
-    fn clock_count(&self) -> usize
+    pub(crate) fn clock_count(&self) -> usize
         ensures { result ≡ length self.now.openings.items }
     {
         self.openings.as_slice().len()
@@ -186,8 +186,8 @@ impl Seats {
         requires clock { clock < length self.now.openings.items }
         ensures table { IsSeatOf self.now pass.new }
         ensures spare { pass.new.spare ≡ pass.old.spare }
-        ensures sees { LookYields self.now.rows (reading_item self.now.openings.items) pass.old.view clock
-            result pass.new.view }
+        ensures sees { LookYields self.now.rows (reading_item self.now.openings.items)
+            pass.old.view clock result pass.new.view }
     {
         self.look::<Brand>(pass, clock, LogEntry::Order { gener: 0, ctrl: 0 })
     }
@@ -441,6 +441,7 @@ impl Seats {
         ensures same { LeavesOthers hub.old.view clock hub.new.view }
         ensures ordered { EntryAdded hub.old.view clock (Order gener ctrl) result.number
             hub.new.view }
+        ensures passes { hub.new.view.passes ≡ hub.old.view.passes }
         ensures spare { hub.old.spare ≡ hub.new.spare + 1 }
     {
         let number = self.appoint(hub, clock, gener, ctrl);
@@ -461,6 +462,7 @@ impl Seats {
         ensures table { IsSeatOf self.now hub.new }
         ensures same { LeavesOthers hub.old.view clock hub.new.view }
         ensures made { EntryAdded hub.old.view clock (Order gener ctrl) result hub.new.view }
+        ensures passes { hub.new.view.passes ≡ hub.old.view.passes }
         ensures spare { hub.old.spare ≡ hub.new.spare + 1 }
     {
         let old = hub.stamps[usize::from(clock)];
@@ -492,6 +494,7 @@ impl Seats {
         ensures owner { pass.new.view.owner ≡ pass.old.view.owner }
         ensures number { pass.new.view.number ≡ pass.old.view.number }
         ensures hub_owner { hub.new.view.owner ≡ hub.old.view.owner }
+        ensures hub_passes { hub.new.view.passes ≡ hub.old.view.passes }
         ensures orders { (clock : ℕ) →
             HasSameOrders (seen_log hub.old.view clock) (seen_log hub.new.view clock) }
         ensures met { (c : ℕ) →
@@ -502,8 +505,8 @@ impl Seats {
         ensures story { pass.new.view.stories.story ≡ page_item (N.list page.now)
             ++ pass.old.view.stories.story }
         ensures level { pass.new.view.stories.told ≡ pass.new.view.stories.story }
-        ensures heard { StoryTold hub.old.view.stories pass.old.view.number pass.new.view.stories.story
-            hub.new.view.stories }
+        ensures heard { StoryTold hub.old.view.stories pass.old.view.number
+            pass.new.view.stories.story hub.new.view.stories }
         ensures spare { pass.new.spare ≡ pass.old.spare }
         ensures hub_spare { hub.new.spare ≡ hub.old.spare }
     {
@@ -520,6 +523,7 @@ impl Seats {
         ensures pass_table { IsSeatOf self.now (seat_value seat.new.table_id seat.new.me.0) }
         ensures seat { IsPassSeat seat.new.me }
         ensures hub_owner { hub.new.view.owner ≡ hub.old.view.owner }
+        ensures hub_passes { hub.new.view.passes ≡ hub.old.view.passes }
         ensures orders { (clock : ℕ) →
             HasSameOrders (seen_log hub.old.view clock) (seen_log hub.new.view clock) }
         ensures met { (c : ℕ) →
@@ -540,12 +544,14 @@ impl Seats {
         ensures pass_table { IsSeatOf self.now (seat_value seat.new.table_id seat.new.me.0) }
         ensures seat { IsPassSeat seat.new.me }
         ensures hub_owner { hub.new.view.owner ≡ hub.old.view.owner }
+        ensures hub_passes { hub.new.view.passes ≡ hub.old.view.passes }
         ensures orders { (clock : ℕ) →
             HasSameOrders (seen_log hub.old.view clock) (seen_log hub.new.view clock) }
         ensures met { (c : ℕ) →
             MeetYields (seen_log hub.old.view c) (seen_log seat.old.me.0 c)
             (seen_log hub.new.view c) (seen_log seat.new.me.0 c) }
-        ensures round { RoundYields (page_item P.page) hub.old.view seat.old.me.0 hub.new.view seat.new.me.0 }
+        ensures round { RoundYields (page_item P.page) hub.old.view seat.old.me.0 hub.new.view
+            seat.new.me.0 }
         ensures hub_spare { hub.new.spare ≡ hub.old.spare }
     {
         self.tell_hub::<P, N>(hub, seat, page);
@@ -561,6 +567,7 @@ impl Seats {
         ensures pass_table { seat.new.table_id ≡ seat.old.table_id }
         ensures seat { seat.new.me ≡ (with_page seat.old.me.0 P.page, seat.old.me.1) }
         ensures hub_owner { hub.new.view.owner ≡ hub.old.view.owner }
+        ensures hub_passes { hub.new.view.passes ≡ hub.old.view.passes }
         ensures orders { (clock : ℕ) →
             HasSameOrders (seen_log hub.old.view clock) (seen_log hub.new.view clock) }
         ensures told { (c : ℕ) → Extends (seen_log hub.old.view c) (seen_log hub.new.view c)

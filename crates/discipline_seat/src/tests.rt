@@ -1,4 +1,4 @@
-ghost use Rattle.std.specs.Prelude.{◌≡◌, ◌+◌, ◌≤◌, ◌∷◌, [], IfOk, length};
+ghost use Rattle.std.specs.Prelude.{◌≡◌, ◌+◌, ◌≤◌, ◌∷◌, [], IfOk, OnOk, length};
 ghost use Rattle.ptp_profile.specs.Roles.SeatLogs.{HasOrder};
 ghost use Rattle.discipline_seat.specs.declared.view.Owner.TheVariants.{Follower, Port};
 ghost use Rattle.discipline_seat.specs.Rule.SeatView.{seen_log};
@@ -117,21 +117,34 @@ fn holders_are_refused(rt: HostRuntime) {
     assert_eq!(rt; parted(rt.alloc()).ok(), Some((1, 1)));
 }
 
+/// Seats of a clock with the seats of all who step.
+#[derive(Drop)]
+struct OneClock {
+    seats: Seats,
+    hub: HubSeat,
+    passes: Passes,
+    pass: Pass,
+    other: Pass,
+    follower: Pass,
+}
+
 /// Seats of a clock that reads 0 at tick 0, given to port 1, which knows of it and has places for
 /// 1,000 changes, with the passes of ports 1 and 2 and of the clock's follower.
-fn shared(alloc: Global, rows: u32) -> Result<(Seats, HubSeat, Pass, Pass, Pass), NoMemory>
+fn shared(alloc: Global, rows: u32) -> Result<OneClock, NoMemory>
     requires row { 1 ≤ rows }
     requires rows { rows ≤ 262143 }
-    ensures clock { IfOk result (λ r. length r.0.openings.items ≡ 1) }
-    ensures hub { IfOk result (λ r. IsSeatOf r.0 r.1) }
-    ensures pass { IfOk result (λ r. IsSeatOf r.0 r.2) }
-    ensures other { IfOk result (λ r. IsSeatOf r.0 r.3) }
-    ensures follower { IfOk result (λ r. IsSeatOf r.0 r.4) }
-    ensures owner { IfOk result (λ r. r.2.view.owner ≡ Port 1) }
-    ensures order { IfOk result (λ r. HasOrder (seen_log r.2.view 0) 1 1) }
-    ensures ordered { IfOk result (λ r. IsOrderedBy r.1.view 1 1 1) }
-    ensures hub_spare { IfOk result (λ r. 2 ≤ r.1.spare) }
-    ensures spare { IfOk result (λ r. 1000 ≤ r.2.spare) }
+    ensures clock { IfOk result (λ r. length r.seats.openings.items ≡ 1) }
+    ensures hub { IfOk result (λ r. IsSeatOf r.seats r.hub) }
+    ensures pass { IfOk result (λ r. IsSeatOf r.seats r.pass) }
+    ensures other { IfOk result (λ r. IsSeatOf r.seats r.other) }
+    ensures follower { IfOk result (λ r. IsSeatOf r.seats r.follower) }
+    ensures taken { IfOk result (λ r. r.passes ≡ record { passes = []; made = 3 }) }
+    ensures counted { IfOk result (λ r. r.hub.view.passes ≡ 3) }
+    ensures owner { IfOk result (λ r. r.pass.view.owner ≡ Port 1) }
+    ensures order { IfOk result (λ r. HasOrder (seen_log r.pass.view 0) 1 1) }
+    ensures ordered { IfOk result (λ r. IsOrderedBy r.hub.view 1 1 1) }
+    ensures hub_spare { IfOk result (λ r. 2 ≤ r.hub.spare) }
+    ensures spare { IfOk result (λ r. 1000 ≤ r.pass.spare) }
 {
     let clock = ClockState {
         tick: 0,
@@ -153,7 +166,67 @@ fn shared(alloc: Global, rows: u32) -> Result<(Seats, HubSeat, Pass, Pass, Pass)
     pass.reserve(1000)?;
     let receipt = seats.order(&mut hub, 0, 1, 1);
     seats.meet(&mut hub, &mut pass, &NoPage);
-    Ok((seats, hub, pass, other, follower))
+    Ok(OneClock {
+        seats,
+        hub,
+        passes,
+        pass,
+        other,
+        follower,
+    })
+}
+
+/// The same, tried once more where there was no memory.
+fn shared_at_last(alloc: Global, rows: u32) -> Result<OneClock, NoMemory>
+    requires row { 1 ≤ rows }
+    requires rows { rows ≤ 262143 }
+    ensures clock { IfOk result (λ r. length r.seats.openings.items ≡ 1) }
+    ensures hub { IfOk result (λ r. IsSeatOf r.seats r.hub) }
+    ensures pass { IfOk result (λ r. IsSeatOf r.seats r.pass) }
+    ensures other { IfOk result (λ r. IsSeatOf r.seats r.other) }
+    ensures follower { IfOk result (λ r. IsSeatOf r.seats r.follower) }
+    ensures taken { IfOk result (λ r. r.passes ≡ record { passes = []; made = 3 }) }
+    ensures counted { IfOk result (λ r. r.hub.view.passes ≡ 3) }
+    ensures owner { IfOk result (λ r. r.pass.view.owner ≡ Port 1) }
+    ensures order { IfOk result (λ r. HasOrder (seen_log r.pass.view 0) 1 1) }
+    ensures spare { IfOk result (λ r. 1000 ≤ r.pass.spare) }
+{
+    match shared(alloc, rows) {
+        Ok(all) => Ok(all),
+        Err(NoMemory) => shared(alloc, rows),
+    }
+}
+
+/// Ends the seats, with what a refused closing handed back where there was no memory at first.
+fn closed(alloc: Global, all: OneClock) -> Result<Logs, NoMemory>
+    requires hub { IsSeatOf all.seats all.hub }
+    requires pass { IsSeatOf all.seats all.pass }
+    requires other { IsSeatOf all.seats all.other }
+    requires follower { IsSeatOf all.seats all.follower }
+    requires taken { all.passes ≡ record { passes = []; made = 3 } }
+    requires counted { all.hub.view.passes ≡ 3 }
+{
+    let OneClock {
+        seats,
+        hub,
+        mut passes,
+        pass,
+        other,
+        follower,
+    } = all;
+    passes.put(pass);
+    passes.put(other);
+    passes.put(follower);
+    match seats.close(alloc, hub, passes) {
+        Ok(logs) => Ok(logs),
+        Err(left) => {
+            let Left { seats, hub, passes } = left;
+            match seats.close(alloc, hub, passes) {
+                Ok(logs) => Ok(logs),
+                Err(left) => Err(NoMemory),
+            }
+        }
+    }
 }
 
 /// The port steps its clock.
@@ -179,10 +252,10 @@ fn stepped_twice(
     requires row { 1 ≤ rows }
     requires rows { rows ≤ 262143 }
 {
-    let (seats, hub, mut pass, other, follower) = shared(alloc, rows)?;
-    let first = step(&seats, &mut pass);
-    let second = step(&seats, &mut pass);
-    Ok((first, second, seats.read(&mut pass, 0)))
+    let mut all = shared(alloc, rows)?;
+    let first = step(&all.seats, &mut all.pass);
+    let second = step(&all.seats, &mut all.pass);
+    Ok((first, second, all.seats.read(&mut all.pass, 0)))
 }
 
 #[test]
@@ -207,6 +280,56 @@ fn a_port_steps_a_shared_clock(rt: HostRuntime) {
             reading
         ))
     );
+}
+
+/// The logs where the port steps its clock twice, of which the log has room for one.
+fn logged(alloc: Global) -> Result<Logs, NoMemory> {
+    let OneClock {
+        seats,
+        hub,
+        passes,
+        mut pass,
+        other,
+        follower,
+    } = shared_at_last(alloc, 2)?;
+    let first = step(&seats, &mut pass);
+    let second = step(&seats, &mut pass);
+    closed(
+        alloc,
+        OneClock {
+            seats,
+            hub,
+            passes,
+            pass,
+            other,
+            follower,
+        },
+    )
+}
+
+/// With any one allocation failing, the logs are the same: a refused closing hands all back.
+#[test]
+fn logs_are_whole(rt: HostRuntime) {
+    match logged(rt.alloc()) {
+        Ok(logs) => {
+            assert_eq!(rt; logs.len(), 1);
+            let whole = [
+                LogEntry::Order { gener: 1, ctrl: 1 },
+                LogEntry::Change {
+                    gener: 1,
+                    ctrl: 1,
+                    tick: 5 * SECOND,
+                    step: 50_000,
+                    freq: 0,
+                },
+            ];
+            for log in logs.items() {
+                assert_eq!(rt; log.clock, 0);
+                assert_eq!(rt; log.entries.items(), whole.as_slice());
+            }
+        }
+        Err(NoMemory) => assert_eq!(rt; 0, 1),
+    }
 }
 
 /// How often the port is given a receipt, of so many times that it steps its clock.
@@ -235,6 +358,7 @@ fn hand_over(seats: &Seats, hub: &mut HubSeat) -> (Receipt, Receipt)
     requires spare { 2 ≤ hub.old.spare }
     requires ordered { IsOrderedBy hub.old.view 1 1 1 }
     ensures hub { IsSeatOf seats.now hub.new }
+    ensures passes { hub.new.view.passes ≡ hub.old.view.passes }
 {
     let revoked = seats.order(hub, 0, 2, 0);
     let granted = seats.order(hub, 0, 2, 2);
@@ -244,7 +368,14 @@ fn hand_over(seats: &Seats, hub: &mut HubSeat) -> (Receipt, Receipt)
 /// Two threads: the port steps its clock 1,000 times on the one, and the hub's seat meets another
 /// pass as often on the other.
 fn steps_and_meets<R: Threads + Sync>(rt: &R, alloc: Global) -> Result<(u32, Reading), NoMemory> {
-    let (seats, mut hub, mut pass, mut other, mut follower) = shared(alloc, 2000)?;
+    let OneClock {
+        seats,
+        mut hub,
+        passes,
+        mut pass,
+        mut other,
+        mut follower,
+    } = shared(alloc, 2000)?;
     let (receipts, met) = join(
         rt,
         || step_often(&seats, &mut pass, 1000),
@@ -277,14 +408,15 @@ fn a_port_steps_its_clock_while_the_hub_meets(rt: HostRuntime) {
     }
 }
 
-/// What the port saw that steps its clock until it is refused, or 1,000 times: the number of its last
-/// receipt, and the refusal.
+/// What the port saw that steps its clock until it is refused, or 1,000 times: the number of its
+/// last receipt, and the refusal.
 fn step_until_refused(seats: &Seats, pass: &mut Pass) -> (u32, Option<Refused>)
     requires clock { length seats.now.openings.items ≡ 1 }
     requires pass { IsSeatOf seats.now pass.old }
     requires spare { 1000 ≤ pass.old.spare }
     requires owner { pass.old.view.owner ≡ Port 1 }
     requires order { HasOrder (seen_log pass.old.view 0) 1 1 }
+    ensures pass { IsSeatOf seats.now pass.new }
 {
     let mut last: u32 = 0;
     for turn in 0..1000u32 {
@@ -296,32 +428,110 @@ fn step_until_refused(seats: &Seats, pass: &mut Pass) -> (u32, Option<Refused>)
     (last, None)
 }
 
+/// What came of a clock that was given to another port.
+#[derive(Drop)]
+struct HandedOver {
+    last: u32,
+    refused: Option<Refused>,
+    revoked: Receipt,
+    granted: Receipt,
+    logs: Logs,
+}
+
+/// The same as `step_until_refused`, of a pass that is given and comes back.
+fn refused_at_last(seats: &Seats, mut pass: Pass) -> (Pass, u32, Option<Refused>)
+    requires clock { length seats.now.openings.items ≡ 1 }
+    requires pass { IsSeatOf seats.now pass }
+    requires spare { 1000 ≤ pass.spare }
+    requires owner { pass.view.owner ≡ Port 1 }
+    requires order { HasOrder (seen_log pass.view 0) 1 1 }
+    ensures { IsSeatOf seats.now result.0 }
+{
+    let (last, refused) = step_until_refused(seats, &mut pass);
+    (pass, last, refused)
+}
+
+/// The same as `hand_over`, of a hub's seat that is given and comes back.
+fn hand_over_by(seats: &Seats, mut hub: HubSeat) -> (HubSeat, Receipt, Receipt)
+    requires clock { length seats.now.openings.items ≡ 1 }
+    requires hub { IsSeatOf seats.now hub }
+    requires spare { 2 ≤ hub.spare }
+    requires ordered { IsOrderedBy hub.view 1 1 1 }
+    requires counted { hub.view.passes ≡ 3 }
+    ensures hub { IsSeatOf seats.now result.0 }
+    ensures counted { result.0.view.passes ≡ 3 }
+{
+    let (revoked, granted) = hand_over(seats, &mut hub);
+    (hub, revoked, granted)
+}
+
 /// Two threads: the port steps its clock while the hub gives the clock to another.
-fn handed_over<R: Threads + Sync>(
-    rt: &R,
-    alloc: Global,
-) -> Result<((u32, Option<Refused>), (Receipt, Receipt)), NoMemory> {
-    let (seats, mut hub, mut pass, other, follower) = shared(alloc, 2000)?;
-    Ok(join(
+fn handed_over<R: Threads + Sync>(rt: &R, alloc: Global) -> Result<HandedOver, NoMemory> {
+    let OneClock {
+        seats,
+        hub,
+        passes,
+        pass,
+        other,
+        follower,
+    } = shared(alloc, 2000)?;
+    let table = &seats;
+    let ((pass, last, refused), (hub, revoked, granted)) = join(
         rt,
-        || step_until_refused(&seats, &mut pass),
-        || hand_over(&seats, &mut hub),
-    ))
+        move || refused_at_last(table, pass),
+        move || hand_over_by(table, hub),
+    );
+    let all = OneClock {
+        seats,
+        hub,
+        passes,
+        pass,
+        other,
+        follower,
+    };
+    Ok(HandedOver {
+        last,
+        refused,
+        revoked,
+        granted,
+        logs: closed(alloc, all)?,
+    })
+}
+
+/// How many of the entries behind the first so many are changes.
+fn changes_behind(entries: &[LogEntry], first: u32) -> u32 {
+    let mut changes: u32 = 0;
+    let mut number: u32 = 0;
+    for entry in entries {
+        number = number.saturating_add(1);
+        if number > first {
+            match *entry {
+                LogEntry::Order { .. } => {}
+                LogEntry::Change { .. } => changes = changes.saturating_add(1),
+            }
+        }
+    }
+    changes
 }
 
 #[test]
 fn handover(rt: HostRuntime) {
     match handed_over(&rt, rt.alloc()) {
-        Ok(((last, refused), (revoked, granted))) => {
-            assert!(rt; last < revoked.number);
-            assert!(rt; revoked.number < granted.number);
-            match refused {
+        Ok(all) => {
+            assert!(rt; all.last < all.revoked.number);
+            assert!(rt; all.revoked.number < all.granted.number);
+            match all.refused {
                 None => {}
                 Some(Refused::Superseded { newer, at }) => {
                     assert_eq!(rt; newer, 2);
-                    assert!(rt; revoked.number <= at);
+                    assert!(rt; all.revoked.number <= at);
                 }
                 Some(Refused::Spent { .. }) => assert_eq!(rt; 0, 1),
+            }
+            assert_eq!(rt; all.logs.len(), 1);
+            for log in all.logs.items() {
+                assert_eq!(rt; log.entries.len(), all.granted.number as usize);
+                assert_eq!(rt; changes_behind(log.entries.items(), all.revoked.number), 0);
             }
         }
         Err(NoMemory) => assert_eq!(rt; 0, 1),

@@ -20,6 +20,7 @@ pub record Noted (v u w : View) : Type 0 where
   pub ports : w.ports ≡ v.ports
   pub number : w.number ≡ v.number
   pub openings : w.openings ≡ v.openings
+  pub passes : w.passes ≡ v.passes
   pub wide : length u.seen ≤ length v.seen → length w.seen ≡ length v.seen
   pub mine : (c : ℕ) → GrewByOthers c v.owner (seen_log v c) (seen_log w c)
   pub one : (c : ℕ) → length u.seen ≤ length v.seen → (seen_log w c ≡ seen_log v c) ⊎ (seen_log w c ≡ seen_log u c)
@@ -38,6 +39,7 @@ noted v u w j t joined ws told =
       ports = ap (λ (y : View). y.ports) is;
       number = ap (λ (y : View). y.number) is;
       openings = ap (λ (y : View). y.openings) is;
+      passes = ap (λ (y : View). y.passes) is;
       wide = λ le. ap (λ (y : View). length y.seen) is ∙ length-merged v.seen u.seen le;
       one = λ c le. subst (λ (y : View). (seen_log y c ≡ seen_log v c) ⊎ (seen_log y c ≡ seen_log u c)) (sym is)
           (at_merged v.seen u.seen c (λ m. (m ≡ seen_log v c) ⊎ (m ≡ seen_log u c)) (λ t _. one_of t (seen_log v c) (seen_log u c)) le);

@@ -151,3 +151,21 @@ returns-clause-made c =
       number = add-one c.unpack-number.result.number ∙ ap suc (made.number c.unpack-number.result (unpacks _ _ c.unpack-number.ensures.only));
       grew = made.grew;
     }
+
+pub returns-clause-passes : goal.returns-clause-passes
+returns-clause-passes c =
+    let i = c.hub.invariant in
+    let a = c.fetch_add-found.ensures in
+    let table : c.hub.inside.seat.table_id ≡ c.args.self.now.table.shared.table_id = ap (λ (p : SeatValue). p.table) c.hub.view_is ∙ c.requires.table.table_is in
+    let words : length c.hub.inside.seat.me.0.openings ≡ c.args.self.now.table.shared.key.clocks = ap (λ (p : SeatValue). length p.view.openings) c.hub.view_is ∙ ap length c.requires.table.openings_are ∙ c.args.self.now.counted in
+    let u : View = c.hub.inside.seat.me.0 in
+    let w : View = c.fetch_add-found.new.seat.me.0 in
+    let e = c.from-4.ensures in
+    let old = old_is c.hub.inside.stamps.items u c.from-4.result c.from.result c.index-old.result.now c.args.self.now.table.shared.key.clocks i.4 (omega (arith, c.args.self.now.counted, c.requires.clock, e)) (i.3 ∙ words) (c.from.ensures ∙ sym e) c.index-old.ensures in
+    let v = ap (λ (p : SeatValue). p.view) c.hub.view_is in
+    let wide : c.from-4.result < length u.seen = omega (arith, c.args.self.now.counted, c.requires.clock, e, i.1) in
+    let new = Order c.args.gener c.args.ctrl in
+    let f = subst (λ (q : View × ℕ). MayComeNext c.args.self.now.rows (seen_log q.0 q.1) new) (λ j. (sym v j, sym e j)) c.requires.follows in
+    let made = makes u w c.from-4.result c.fetch_add-found.result _ c.args.gener c.args.ctrl i.2 a.2.1
+    (sum_is c.args.self.now.rows c.args.gener c.args.ctrl c.from-2.result c.from-3.result c.index-old.result.now (seen_log u c.from-4.result) c.from-2.ensures c.from-3.ensures f old.1 old.0) f.2 f.3 in
+    ap (λ (y : View). y.passes) made.is ∙ ap (λ (p : SeatValue). p.view.passes) c.hub.view_is

@@ -80,6 +80,17 @@ returns-clause-hub_owner g c =
     let told = noted v u w c.join_seat.new.seat.me.0 (stories_after_hearing u.number v.stories u.stories) js l.2.1 l.2.2 in
     told.owner ∙ ap (λ (p : SeatValue). p.view.owner) c.hub.view_is
 
+pub returns-clause-hub_passes : goal.returns-clause-hub_passes
+returns-clause-hub_passes g c =
+    let l = c.load.ensures in
+    let j = c.join_seat.ensures in
+    let u : View = with_page c.args.seat.now.me.0 g.P.Said.page in
+    let v : View = c.hub.inside.seat.me.0 in
+    let w : View = c.load.new.seat.me.0 in
+    let js : c.join_seat.new.seat.me.0 ≡ heard v (note u) = ap (λ (m : Me LogEntry View). m.0) j.2 ∙ ap (λ (m : Me LogEntry View). heard v m.0) c.split_seat-note.ensures.4 in
+    let told = noted v u w c.join_seat.new.seat.me.0 (stories_after_hearing u.number v.stories u.stories) js l.2.1 l.2.2 in
+    told.passes ∙ ap (λ (p : SeatValue). p.view.passes) c.hub.view_is
+
 pub returns-clause-orders : goal.returns-clause-orders
 returns-clause-orders g c =
     let l = c.load.ensures in
