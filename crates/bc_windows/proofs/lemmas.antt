@@ -1,0 +1,7 @@
+pub mod TimerFloorLemmas
+pub mod PortFloorLemmas
+pub mod EntryFloorLemmas
+pub mod NextFloorLemmas
+pub mod WindowLemmas
+pub mod WindowNumberLemmas
+pub mod WindowExampleLemmas
