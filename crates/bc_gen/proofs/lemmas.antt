@@ -1,0 +1,3 @@
+pub mod MadeNumberLemmas
+pub mod MadeTextLemmas
+pub mod MadeTickLemmas

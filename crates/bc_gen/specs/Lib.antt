@@ -1,0 +1,3 @@
+pub mod MadeNumbers
+pub mod MadeRecords
+pub mod MadeText
