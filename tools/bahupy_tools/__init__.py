@@ -1,0 +1,1 @@
+"""What the commands of this folder share. `docs/TOOLS.md` says what each command does."""
