@@ -54,7 +54,10 @@ fn answers_are_cut_off(rt: HostRuntime) -> Result<(), Fail> {
 
 #[test]
 fn a_followers_transcript_is_cut_off(rt: HostRuntime) -> Result<(), Fail> {
-    let out = transcript(rt.alloc(), two_clocks(rt.alloc(), "duration 8\n", "")?.as_str())?;
+    let out = transcript(
+        rt.alloc(),
+        two_clocks(rt.alloc(), "duration 8\n", "")?.as_str(),
+    )?;
     let lines = line_count(&out);
     assert!(rt; lines > 50);
     assert_eq!(rt; refused_cuts(rt.alloc(), &out).saturating_add(1), lines);
