@@ -3,5 +3,5 @@ pub mod PortFloorLemmas
 pub mod EntryFloorLemmas
 pub mod NextFloorLemmas
 pub mod WindowLemmas
-pub mod WindowNumberLemmas
+pub mod WindowOrderLemmas
 pub mod WindowExampleLemmas

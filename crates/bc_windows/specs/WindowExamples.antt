@@ -1,5 +1,5 @@
 -- A worked example: a port that hears nothing is MASTER at 6 s, and sends its first Sync at 7 s.
-use Rattle.std.specs.Prelude.{List, [], ◌∷◌, drop, take}
+use Rattle.std.specs.Prelude.{List, [], ◌∷◌, drop}
 use Rattle.bc_history.specs.declared.entry.Entry.{Entry}
 use Rattle.bc_history.specs.declared.scenario.Scenario.{Scenario}
 use Rattle.bc_history.specs.Run.RunExamples.{history_before}
@@ -14,18 +14,18 @@ lonely = silent 7 1
 abbrev pub lonely_entries : List Entry
 lonely_entries = history_before 0 lonely 3
 
--- its first entry, in the window that ends at 6 s
+-- the window that ends at 6 s, given before all entries
 abbrev pub first_window : Window
-first_window = record { number = 48; entries = drop 1 lonely_entries }
+first_window = record { end = 6000000000; begun = [] }
 
--- its second entry, in the window that ends at 7 s
+-- the window that ends at 7 s, given after the first entry
 abbrev pub second_window : Window
-second_window = record { number = 56; entries = take 1 lonely_entries }
+second_window = record { end = 7000000000; begun = drop 1 lonely_entries }
 
--- both windows; there is nothing in those between
+-- both windows
 abbrev pub lonely_windows : List Window
 lonely_windows = second_window ∷ first_window ∷ []
 
--- both entries in the later window, which begins with the earlier one still to come
+-- both windows, the later one given while the first entry was still to come
 abbrev pub hurried_windows : List Window
-hurried_windows = record { number = 56; entries = lonely_entries } ∷ []
+hurried_windows = record second_window { begun = [] } ∷ first_window ∷ []

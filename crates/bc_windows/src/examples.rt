@@ -1,14 +1,16 @@
 ghost use Rattle.std.specs.Prelude.{◌≡◌, ℕ, List, [], ◌∷◌, map};
 ghost use Rattle.bc_history.specs.declared.entry.Entry.{Entry};
 ghost use Rattle.bc_history.specs.Phases.Inputs.{tick_of};
-ghost use Rattle.bc_windows.specs.Windows.{AreMadeInTurn};
-ghost use Rattle.bc_windows.specs.WindowExamples.{hurried_windows, lonely, lonely_entries, lonely_windows};
+ghost use Rattle.bc_windows.specs.Windows.{IsMadeBy};
+ghost use Rattle.bc_windows.specs.WindowExamples.{first_window, hurried_windows, lonely};
+ghost use Rattle.bc_windows.specs.WindowExamples.{lonely_entries, lonely_windows};
 
-/// Two entries, at 6 s and 7 s, are made window by window, though not where both are in the later
-/// window.
-pub fn windows_are_made_in_turn()
+/// Two entries, at 6 s and 7 s, are made by two windows that end then, the later one given after
+/// the first entry; not by the earlier window alone, nor where the later one is given too early.
+pub fn windows_make_a_history()
     ensures ticks { map (λ (e : Entry). tick_of e.input) lonely_entries
         ≡ 7000000000 ∷ 6000000000 ∷ [] }
-    ensures made { AreMadeInTurn lonely lonely_windows }
-    ensures hurried { ¬ (AreMadeInTurn lonely hurried_windows) }
+    ensures made { IsMadeBy lonely lonely_windows lonely_entries }
+    ensures alone { ¬ (IsMadeBy lonely (first_window ∷ []) lonely_entries) }
+    ensures hurried { ¬ (IsMadeBy lonely hurried_windows lonely_entries) }
 {}

@@ -1,12 +1,10 @@
-ghost use Rattle.std.specs.Prelude.{◌≡◌, ◌<◌, ◌≤◌, ◌++◌, ℕ, List, All, reverse};
+ghost use Rattle.std.specs.Prelude.{◌<◌, ◌≤◌, ◌∷◌, ◌++◌, ℕ, List, All};
 ghost use Rattle.bc_history.specs.declared.entry.Entry.{Entry};
-ghost use Rattle.bc_history.specs.declared.entry.Run.{Run};
 ghost use Rattle.bc_history.specs.declared.scenario.Scenario.{Scenario};
 ghost use Rattle.bc_history.specs.Phases.Inputs.{tick_of};
 ghost use Rattle.bc_history.specs.Run.History.{Continues, IsFinished};
 ghost use Rattle.bc_history.specs.Scenario.ScenarioRules.{IsScenario};
-ghost use Rattle.run_legal.specs.Runs.LegalRuns.{IsWindowed, window_of};
-ghost use Rattle.bc_windows.specs.Windows.{AreMadeInTurn, IsBeyond, Window, entries_in};
+ghost use Rattle.bc_windows.specs.Windows.{BeganEmpty, IsBeyond, IsMadeBy, Window, latest};
 
 /// Where no entry of a history is beyond a tick and no actor has a next input up to it, all that
 /// follows is beyond that tick, and no actor has a next input up to it then either.
@@ -19,15 +17,17 @@ pub fn nothing_falls_behind()
         → IsBeyond s before end → IsBeyond s (more ++ before) end }
 {}
 
-/// Where the entries of a run are made window by window, each entry's tick is in the window that it
-/// is made in, and windows never fall along the run.
-pub fn runs_by_windows_are_windowed()
-    ensures numbers { (s : Scenario) (windows : List Window) → IsScenario s
-        → Continues s (entries_in windows) → AreMadeInTurn s windows
-        → All (λ (w : Window). All (λ (e : Entry). window_of s e ≡ w.number) w.entries) windows }
-    ensures windowed { (s : Scenario) (windows : List Window) (run : Run) → IsScenario s
-        → Continues s (entries_in windows) → AreMadeInTurn s windows
-        → reverse run.entries ≡ entries_in windows → IsWindowed s run }
+/// Where windows made a history, from no entries on, each entry is up to the latest last tick of
+/// them, and each that was made since the newest window was given is beyond the last ticks of all
+/// former windows.
+pub fn windows_keep_their_order()
+    ensures within { (s : Scenario) (w : Window) (former : List Window) (entries : List Entry)
+        → IsMadeBy s (w ∷ former) entries → BeganEmpty (w ∷ former)
+        → All (λ (e : Entry). tick_of e.input ≤ latest (w ∷ former)) entries }
+    ensures behind { (s : Scenario) (w v : Window) (former : List Window) (more : List Entry)
+        → IsScenario s → Continues s (more ++ w.begun)
+        → IsMadeBy s (w ∷ v ∷ former) (more ++ w.begun) → BeganEmpty (w ∷ v ∷ former)
+        → All (λ (e : Entry). latest (v ∷ former) < tick_of e.input) more }
 {}
 
 /// A history is finished exactly where no actor has a next input up to the end of the run.

@@ -27,6 +27,7 @@ pub mod FreeStepLemmas
 pub mod NamedStepLemmas
 pub mod NamedActorLemmas
 pub mod NamedRunLemmas
+pub mod NextInputLemmas
 pub mod NamedEndLemmas
 pub mod StepLemmas
 pub mod FormedRunLemmas

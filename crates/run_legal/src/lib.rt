@@ -24,4 +24,4 @@ pub use laws::{
 pub use named_laws::{
     changes_stay_named, free_steps_stay_right, legal_by_steps, nothing_is_due_at_the_end,
 };
-pub use world_laws::world_runs_are_legal;
+pub use world_laws::{next_inputs_are_of_actors, world_runs_are_legal};

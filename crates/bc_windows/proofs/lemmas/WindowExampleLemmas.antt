@@ -1,5 +1,7 @@
 -- The worked example, by evaluation.
-use Rattle.std.proofs.Common.{◌≡◌, ◌<◌, ◌≤◌, ℕ, refl, [], ◌∷◌, drop, map, arith}
+use Rattle.std.proofs.Common.{◌≡◌, ◌<◌, ◌≤◌, refl, sym, ◌∙◌, subst, List, [], ◌∷◌, drop, map, take, arith}
+use Rattle.std.specs.Prelude.{All}
+use Rattle.std.proofs.lemmas.List.{append-nil}
 use Rattle.std.proofs.lemmas.List.Elements.{All-from_recursion}
 use Rattle.ptp_profile.specs.declared.port_event.Timer.TheVariants.{AnnounceReceipt}
 use Rattle.ptp_profile.specs.Wire.MessageFormat.{number_at, message_octets}
@@ -15,41 +17,25 @@ use Rattle.bc_history.specs.Phases.PortPhase.{after_port}
 use Rattle.bc_history.specs.Phases.RolePhase.{after_roles}
 use Rattle.bc_history.specs.Phases.Step.{state_of, step}
 use Rattle.bc_history.specs.Run.NextInputs.{IsNext}
+use Rattle.bc_history.specs.Run.RunExamples.{becomes_master}
 use Rattle.bc_history.specs.Run.World.{status_after}
 use Rattle.bc_history.proofs.lemmas.FinishedLemmas.{finished-from_test}
-use Rattle.bc_windows.specs.Windows.{AreMadeInTurn, IsBeyond, Window, end_of}
-use Rattle.bc_windows.specs.WindowExamples.{first_window, hurried_windows, lonely, lonely_entries, lonely_windows, second_window}
+use Rattle.bc_windows.specs.Windows.{IsBeyond, IsMadeBy}
+use Rattle.bc_windows.specs.WindowExamples.{first_window, hurried_windows, lonely, lonely_entries, lonely_windows}
 use Rattle.bc_windows.proofs.lemmas.WindowLemmas.{finished-beyond}
 
--- the same port in a run that ends with a window
-abbrev until : ℕ → Scenario
-until number = record lonely { options = record lonely.options { duration = end_of lonely number } }
+-- the same port in a run of 6 s
+abbrev shorter : Scenario
+shorter = record lonely { options = record lonely.options { duration = 6000000000 } }
 
 -- the ticks of both entries
 pub lonely-ticks : map (λ (e : Entry). tick_of e.input) lonely_entries ≡ 7000000000 ∷ 6000000000 ∷ []
 unfolding number_at message_octets status_after step state_of after_port with_codes after_hearing after_roles after_turn effects_of entry_after
 lonely-ticks = refl
 
--- what is next at the beginning doesn't depend on where the run ends
-next-first : (input : Input) → IsNext lonely (state_of lonely []) input → IsNext (until 47) (state_of (until 47) []) input
-unfolding state_of
-next-first (Frame port tick octets) next = next
-next-first (Timed port tick timer) next = next
-next-first (Down port tick) next = next
-next-first (Up port tick) next = next
-next-first (Report port tick gener action outcome) next = next
-next-first (Turn clock tick) next = next
-next-first (Sampled clock tick lead theirs own action outcome) next = next
-next-first (Query tick text) next = next
-
--- nothing is next up to the window before 6 s
-first-beyond : IsBeyond lonely [] (end_of lonely 47)
-unfolding state_of
-first-beyond input next = finished-beyond (until 47) [] (finished-from_test (until 47) [] refl) input (next-first input next)
-
--- nor is what is next after the first entry
+-- what is next after the first entry doesn't depend on where the run ends
 next-second : (input : Input) → IsNext lonely (state_of lonely (drop 1 lonely_entries)) input
-    → IsNext (until 55) (state_of (until 55) (drop 1 lonely_entries)) input
+    → IsNext shorter (state_of shorter (drop 1 lonely_entries)) input
 unfolding number_at message_octets status_after step state_of after_port with_codes after_hearing after_roles after_turn effects_of entry_after
 next-second (Frame port tick octets) next = next
 next-second (Timed port tick timer) next = next
@@ -60,34 +46,44 @@ next-second (Turn clock tick) next = next
 next-second (Sampled clock tick lead theirs own action outcome) next = next
 next-second (Query tick text) next = next
 
--- nothing is next up to the window before 7 s
-second-beyond : IsBeyond lonely (drop 1 lonely_entries) (end_of lonely 55)
+-- nothing is next up to 6 s then
+second-beyond : IsBeyond lonely (drop 1 lonely_entries) 6000000000
 unfolding number_at message_octets status_after step state_of after_port with_codes after_hearing after_roles after_turn effects_of entry_after
 second-beyond input next =
-    finished-beyond (until 55) (drop 1 lonely_entries) (finished-from_test (until 55) (drop 1 lonely_entries) refl) input (next-second input next)
+    finished-beyond shorter (drop 1 lonely_entries) (finished-from_test shorter (drop 1 lonely_entries) refl) input (next-second input next)
 
--- so both windows are made in turn
-pub lonely-made : AreMadeInTurn lonely lonely_windows
+-- so both windows make the history, an entry each
+pub lonely-made : IsMadeBy lonely lonely_windows lonely_entries
 unfolding number_at message_octets status_after step state_of after_port with_codes after_hearing after_roles after_turn effects_of entry_after
 lonely-made = (
   record {
-    later = All-from_recursion (λ (v : Window). v.number < 56) (first_window ∷ []) (omega arith, tt);
-    begins = second-beyond;
-    within = All-from_recursion (λ (e : Entry). tick_of e.input ≤ end_of lonely 56) second_window.entries (omega arith, tt);
+    more = take 1 lonely_entries;
+    history = refl;
+    within = All-from_recursion (λ (e : Entry). tick_of e.input ≤ 7000000000) (take 1 lonely_entries) (omega arith, tt);
   },
+  second-beyond,
   (
     record {
-      later = All-from_recursion (λ (v : Window). v.number < 48) [] tt;
-      begins = first-beyond;
-      within = All-from_recursion (λ (e : Entry). tick_of e.input ≤ end_of lonely 48) first_window.entries (omega arith, tt);
+      more = drop 1 lonely_entries;
+      history = refl;
+      within = All-from_recursion (λ (e : Entry). tick_of e.input ≤ 6000000000) (drop 1 lonely_entries) (omega arith, tt);
     },
+    tt,
     tt,
   ),
 )
 
--- the later window may not begin before the earlier entry was made: its timer is next
-pub hurried-refused : AreMadeInTurn lonely hurried_windows → ⊥
+-- the earlier window alone doesn't: the second entry is beyond its end
+pub alone-refused : IsMadeBy lonely (first_window ∷ []) lonely_entries → ⊥
+unfolding number_at message_octets status_after step state_of after_port with_codes after_hearing after_roles after_turn effects_of entry_after
+alone-refused (is, begins, made) =
+    let all = subst (λ (es : List Entry). All (λ (e : Entry). tick_of e.input ≤ 6000000000) es) (sym (is.history ∙ append-nil is.more)) is.within in
+    let within : 7000000000 ≤ 6000000000 = all 0 (becomes_master 1) (omega arith) in
+    omega (arith, within)
+
+-- nor may the later window begin before the first entry was made: its timer is next
+pub hurried-refused : IsMadeBy lonely hurried_windows lonely_entries → ⊥
 unfolding state_of
-hurried-refused (is, made) =
-    let above : end_of lonely 55 < 6000000000 = is.begins (Timed 1 6000000000 AnnounceReceipt) (refl, refl) in
+hurried-refused (is, begins, made) =
+    let above : 6000000000 < 6000000000 = begins (Timed 1 6000000000 AnnounceReceipt) (refl, refl) in
     omega (arith, above)

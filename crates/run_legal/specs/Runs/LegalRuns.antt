@@ -38,9 +38,13 @@ pub record IsLegal (s : Scenario) (run : Run) : Type 0 where
   pub named : AreNamed s (reverse run.entries) (newest_first run.logs)
   pub finished : IsFinished s (reverse run.entries)
 
--- the window of an entry's tick: windows end at the multiples of the option
+-- the window of a tick: windows end at the multiples of the option, and window 0 is tick 0 alone
+abbrev pub window_at : Scenario → ℕ → ℕ
+window_at s tick = (tick + (s.options.window - 1)) / s.options.window
+
+-- the window of an entry
 abbrev pub window_of : Scenario → Entry → ℕ
-window_of s e = (tick_of e.input + (s.options.window - 1)) / s.options.window
+window_of s e = window_at s (tick_of e.input)
 
 -- a windowed run: windows never fall along the entries
 abbrev pub IsWindowed : Scenario → Run → Type 0
