@@ -4,5 +4,6 @@ pub mod ActorTurnLemmas
 pub mod ActorStepLemmas
 pub mod ScheduleLemmas
 pub mod DefaultTurnLemmas
+pub mod ActorsAfterLemmas
 pub mod ActorLoopLemmas
 pub mod NamedTurnLemmas

@@ -39,18 +39,23 @@ free_steps_of actors = sum_by (λ (a : ActorState). free_steps a.place) actors
 abbrev pub steps_left : HubState → ℕ → ℕ
 steps_left hub free = 4 * (ENTRIES_MAX - length hub.entries) + free
 
--- hub and actors, who are all that act, stand where the World of the scenario does after so many
--- turns
-pub record LoopRepresents (s : Scenario) (taken : ℕ) (hub : HubState) (actors : List ActorState) : Type 0 where
+-- hub and actors, who are all that act in the scenario, stand in a World
+pub record AllStandIn (s : Scenario) (w : World) (hub : HubState) (actors : List ActorState) : Type 0 where
   pub scenario : hub.scenario ≡ s
   pub few : length hub.entries ≤ ENTRIES_MAX
   pub acting : map (λ (a : ActorState). a.who) actors ≡ actors_of s
   pub level : AreLevel hub actors
   pub jobs : AreJobsDue s actors
-  pub bound : taken + steps_left hub (free_steps_of actors) ≤ 4 * ENTRIES_MAX
+  pub stand : AreIn w hub actors
+
+-- hub and actors stand where the World of the scenario does after so many turns; no window was
+-- given
+pub record LoopRepresents (s : Scenario) (taken : ℕ) (hub : HubState) (actors : List ActorState) : Type 0 where
   pub world : World
+  pub all : AllStandIn s world hub actors
+  pub unbounded : hub.windows ≡ []
+  pub bound : taken + steps_left hub (free_steps_of actors) ≤ 4 * ENTRIES_MAX
   pub going : status_after s taken ≡ Going world
-  pub stand : AreIn world hub actors
 
 -- no line of the schedule is behind so many turns
 abbrev pub IsPastSchedule : Scenario → ℕ → Type 0

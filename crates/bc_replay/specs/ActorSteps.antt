@@ -3,10 +3,10 @@ use Rattle.std.specs.Prelude.{◌≡◌, ℕ, ◌⊎◌, ◌<◌, ◌≤◌, Lis
 use Rattle.ptp_base.specs.declared.limits.TheConstants.{ENTRIES_MAX}
 use Rattle.bc_history.specs.Run.World.{End, Ended, Events as Too_many, Going, Status, World, free_steps, step_of, take_step}
 use Rattle.hub_core.specs.HubView.{HubState}
+use Rattle.hub_core.specs.declared.hub.HubError.{HubError}
+use Rattle.hub_core.specs.declared.hub.HubError.TheVariants.{NoMemory, Events}
 use Rattle.bc_steps.specs.ActorView.{ActorState, AddsOwn, IsIn, IsLevel, IsJobDue, IsPlaceOf, IsSameActor, IsSameHistory, world_with}
 use Rattle.bc_replay.specs.ActorLoop.{steps_left}
-use Rattle.bc_replay.specs.declared.run.ReplayError.{ReplayError}
-use Rattle.bc_replay.specs.declared.run.ReplayError.TheVariants.{NoMemory, Events, NotDue}
 
 -- in each World in which hub and actor stand the actor's next step leads there, however the scenario
 -- would end without one
@@ -27,10 +27,9 @@ pub record StepYields (hub : HubState) (a : ActorState) (new : HubState) (b : Ac
   pub fewer : steps_left new (free_steps b.place) < steps_left hub (free_steps a.place)
 
 -- why an actor took no step; want of memory has no cause that is told
-abbrev pub IsStepError : HubState → ActorState → ReplayError → Type 0
+abbrev pub IsStepError : HubState → ActorState → HubError → Type 0
 IsStepError hub a NoMemory = Unit {0}
 IsStepError hub a Events = StepLeadsTo hub a (λ w. Ended Too_many)
-IsStepError hub a (NotDue turn) = ⊥
 
 -- the actor of index i took its next step, which made this of all
 pub record TurnYields (hub : HubState) (actors : List ActorState) (i : ℕ) (new : HubState) (actors_after : List ActorState) : Type 0 where
@@ -41,6 +40,6 @@ pub record TurnYields (hub : HubState) (actors : List ActorState) (i : ℕ) (new
   pub others : actors_after ≡ slice_set actors i after
 
 -- why the actor of index i took no step
-abbrev pub IsTurnError : HubState → List ActorState → ℕ → ReplayError → Type 0
+abbrev pub IsTurnError : HubState → List ActorState → ℕ → HubError → Type 0
 IsTurnError hub actors i error =
     (a : ActorState) → slice_get actors i ≡ Some a → IsStepError hub a error

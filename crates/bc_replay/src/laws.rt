@@ -7,7 +7,7 @@ ghost use Rattle.bc_history.specs.Run.Actors.{actors_of};
 ghost use Rattle.bc_history.specs.Run.World.{World, Events, Not_due, IsEnd, IsWorld, default_turn, run_of, turner_at};
 ghost use Rattle.hub_core.specs.HubView.{HubState, hub_at_opening};
 ghost use Rattle.bc_steps.specs.ActorView.{ActorState};
-ghost use Rattle.bc_replay.specs.declared.run.ReplayError.TheVariants.{Events as Too_many};
+ghost use Rattle.hub_core.specs.declared.hub.HubError.TheVariants.{Events as Too_many};
 ghost use Rattle.bc_replay.specs.ActorLoop.{actor_at_opening, AreIn, LoopRepresents};
 ghost use Rattle.bc_replay.specs.ActorSteps.{IsStepError, StepYields};
 ghost use Rattle.bc_replay.specs.ActorTurns.{due_actors, turn_among, HasNoTurn, IsTurnOf, IsTurnerAt};

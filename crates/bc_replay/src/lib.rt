@@ -4,7 +4,10 @@
 mod actors;
 mod laws;
 mod run;
+mod step;
 mod turn;
 
+pub use actors::actors_of;
 pub use laws::{the_default_turn_is_of_an_actor, the_loop_is_the_world};
 pub use run::{ReplayError, replay};
+pub use step::take_step;

@@ -1,16 +1,14 @@
-ghost use Rattle.std.specs.Prelude.{◌≡◌, ◌<◌, ◌≤◌, ◌+◌, true, false, length, slice_get, Some, IfOk, IfErr, OnOk};
-ghost use Rattle.ptp_base.specs.declared.limits.TheConstants.{ENTRIES_MAX};
+ghost use Rattle.std.specs.Prelude.{◌≡◌, ◌<◌, ◌+◌, length, slice_get, Some, IfOk, IfErr, OnOk};
 ghost use Rattle.bc_history.specs.declared.scenario.Turner.TheVariants.{Default};
-ghost use Rattle.bc_history.specs.Run.World.{IsWorld, is_inside};
+ghost use Rattle.bc_history.specs.Run.World.{IsWorld};
 ghost use Rattle.bc_history.specs.Scenario.ScenarioRules.{IsTurnerOf};
 ghost use Rattle.run_legal.specs.Runs.LegalRuns.{IsLegal};
-ghost use Rattle.bc_steps.specs.ActorView.{is_ready, IsLevel};
-ghost use Rattle.bc_replay.specs.ActorLoop.{AreLevel, IsUnscheduledLoop, LoopRepresents};
-ghost use Rattle.bc_replay.specs.ActorSteps.{IsStepError, IsTurnError, StepYields, TurnYields};
-ghost use Rattle.bc_replay.specs.ActorTurns.{HasNoTurn, HasTurns, IsDueAt};
+ghost use Rattle.bc_replay.specs.ActorLoop.{IsUnscheduledLoop, LoopRepresents};
+ghost use Rattle.bc_replay.specs.ActorTurns.{HasNoTurn, HasTurns};
 ghost use Rattle.bc_replay.specs.ReplayError.{IsReplayError};
 
 use crate::actors::actors_of;
+use crate::step::take_turn;
 use crate::turn::{default_turn, turn_of};
 use bc_history::{Run, Scenario, Turns};
 use bc_steps::{Actor, Hub, HubError};
@@ -55,65 +53,6 @@ impl From<HubError> for ReplayError {
             HubError::Events => ReplayError::Events,
         }
     }
-}
-
-/// An actor whose next step is an event takes it.
-fn take_event(hub: &mut Hub, actor: &mut Actor, until: u64) -> Result<(), ReplayError>
-    requires level { IsLevel hub.old actor.old }
-    requires few { length hub.old.entries ≤ ENTRIES_MAX }
-    requires ready { is_ready until hub.old actor.old ≡ true }
-    requires inside { is_inside actor.old.place ≡ true }
-    ensures step { OnOk result (StepYields hub.old actor.old hub.new actor.new) }
-    ensures error { IfErr result (IsStepError hub.old actor.old) }
-{
-    actor.event(hub, until)?;
-    actor.kind();
-    Ok(())
-}
-
-/// An actor whose next step is no event takes it.
-fn take_free_step(hub: &mut Hub, actor: &mut Actor) -> Result<(), ReplayError>
-    requires level { IsLevel hub.old actor.old }
-    requires few { length hub.old.entries ≤ ENTRIES_MAX }
-    requires inside { is_inside actor.old.place ≡ false }
-    ensures step { OnOk result (StepYields hub.old actor.old hub.new actor.new) }
-    ensures error { IfErr result (IsStepError hub.old actor.old) }
-{
-    actor.free(hub)?;
-    actor.kind();
-    Ok(())
-}
-
-/// An actor takes its next step, which is due.
-fn take_step(hub: &mut Hub, actor: &mut Actor, until: u64) -> Result<(), ReplayError>
-    requires level { IsLevel hub.old actor.old }
-    requires few { length hub.old.entries ≤ ENTRIES_MAX }
-    requires ready { is_ready until hub.old actor.old ≡ true }
-    ensures step { OnOk result (StepYields hub.old actor.old hub.new actor.new) }
-    ensures error { IfErr result (IsStepError hub.old actor.old) }
-{
-    if actor.inside() {
-        take_event(hub, actor, until)
-    } else {
-        take_free_step(hub, actor)
-    }
-}
-
-/// One turn: the actor of index `i`, whose next step is due, takes it.
-fn take_turn(
-    hub: &mut Hub,
-    actors: &mut Vec<Actor>,
-    i: usize,
-    until: u64,
-) -> Result<(), ReplayError>
-    requires level { AreLevel hub.old actors.old.items }
-    requires few { length hub.old.entries ≤ ENTRIES_MAX }
-    requires due { IsDueAt hub.old actors.old.items i }
-    requires until { until ≡ hub.old.scenario.options.duration }
-    ensures step { OnOk result (TurnYields hub.old actors.old.items i hub.new actors.new.items) }
-    ensures error { IfErr result (IsTurnError hub.old actors.old.items i) }
-{
-    take_step(hub, &mut actors[i], until)
 }
 
 /// The turns of a line of the schedule, behind so many that were taken.

@@ -1,5 +1,5 @@
 -- An actor, beside the hub and in a World.
-use Rattle.std.specs.Prelude.{◌≡◌, ℕ, Bool, true, nat_le, List, ◌∷◌, Option, Some}
+use Rattle.std.specs.Prelude.{◌≡◌, ℕ, Bool, true, nat_le, min, List, ◌∷◌, Option, None, Some}
 use Rattle.bc_history.specs.declared.entry.Entry.{Entry}
 use Rattle.bc_history.specs.declared.entry.Who.{Who}
 use Rattle.bc_history.specs.declared.entry.Who.TheVariants.{Port, Follower, Queries}
@@ -10,6 +10,7 @@ use Rattle.bc_history.specs.Run.Actors.{entries_of, is_by}
 use Rattle.bc_history.specs.declared.place.PortPlace.TheVariants.{Waits, Exchanges, Reports}
 use Rattle.bc_history.specs.declared.place.FollowerPlace.TheVariants.{Turns, ReadsTheirs, ReadsOwn, Exchanges as Follower_exchanges, Samples}
 use Rattle.bc_history.specs.Run.World.{Place, Of_port, Of_follower, Of_queries, World, due_by_end, is_due, place_of, with_place}
+use Rattle.bc_windows.specs.Windows.{bound_of}
 use Rattle.hub_core.specs.HubView.{HubState}
 
 -- an actor: its scenario, who it is, its own entries, the newest first, and where it is in its job
@@ -64,23 +65,34 @@ abbrev pub world_with : World → HubState → ActorState → World
 world_with w hub a =
     with_place a.who a.place (record w { entries = hub.entries; logs = hub.logs })
 
--- it has a step that is due up to a tick, and before the run ends
+-- the earlier of a tick and the last one of the present window, if there is one
+abbrev pub up_to_bound : Option ℕ → ℕ → ℕ
+up_to_bound None until = until
+up_to_bound (Some end) until = min until end
+
+-- up to this tick the hub takes events where all goes on up to another
+abbrev pub last_tick : HubState → ℕ → ℕ
+last_tick hub until = up_to_bound (bound_of hub.windows) until
+
+-- it has a step that is due up to a tick, in the present window and before the run ends
 abbrev pub is_ready : ℕ → HubState → ActorState → Bool
-is_ready until hub a = holds (λ tick. nat_le tick until) (due_tick hub a)
+is_ready until hub a = holds (λ tick. nat_le tick (last_tick hub until)) (due_tick hub a)
 
 -- what never changes of an actor
 pub record IsSameActor (old new : ActorState) : Type 0 where
   pub scenario : new.scenario ≡ old.scenario
   pub who : new.who ≡ old.who
 
--- the hub has one entry more, of this actor
+-- the hub has one entry more, of this actor; its windows are as before
 pub record AddsOwn (who : Who) (old new : HubState) : Type 0 where
   pub entry : Entry
   pub more : new.entries ≡ entry ∷ old.entries
   pub own : is_by who entry ≡ true
   pub scenario : new.scenario ≡ old.scenario
+  pub windows : new.windows ≡ old.windows
 
--- the hub's scenario and history are as before
+-- the hub's scenario, history and windows are as before
 pub record IsSameHistory (old new : HubState) : Type 0 where
   pub scenario : new.scenario ≡ old.scenario
   pub entries : new.entries ≡ old.entries
+  pub windows : new.windows ≡ old.windows

@@ -115,7 +115,8 @@ impl Actor {
     }
 
     /// Its next step, an event of the hub. Ok(false) exactly where it has none up to `until`, in ns of
-    /// the scenario, and up to the end of the run. Events exactly where it has one, and the hub has
+    /// the scenario, in the hub's window, and up to the end of the run. Events exactly where it has
+    /// one, and the hub has
     /// `ENTRIES_MAX` entries. A refusal leaves hub and actor as they were.
     pub fn event(&mut self, hub: &mut Hub, until: u64) -> Result<bool, HubError>
         requires level { IsLevel hub.old self.old }

@@ -8,10 +8,11 @@ ghost use Rattle.bc_history.specs.Phases.Step.{state_of};
 ghost use Rattle.bc_history.specs.Run.Actors.{actor_of, is_same_actor};
 ghost use Rattle.bc_history.specs.Run.NextInputs.{IsDue, query_input};
 ghost use Rattle.bc_history.specs.Run.World.{World, Event, Of_queries, is_busy, is_inside, step_of};
-ghost use Rattle.hub_core.specs.HubView.{entry_by, reading_at, with_entry};
+ghost use Rattle.hub_core.specs.HubView.{IsInWindow, entry_by, reading_at, with_entry};
 ghost use Rattle.bc_steps.specs.ActorView.{due_tick, is_ready, place_at_opening, world_with, AddsOwn, IsIn, IsJobDue, IsLevel, IsPlaceOf, IsSameActor};
 ghost use Rattle.bc_steps.specs.QueryActors.{asked_input};
 
+use crate::ticks::last_tick;
 use bc_history::{Asked, Entries, Input, Scenario};
 use hub_core::{Hub, HubError};
 use ptp_base::{ENTRIES_MAX, Items, NoMemory};
@@ -137,6 +138,7 @@ impl QueryActor {
         requires level { IsLevel hub.old self.old }
         requires due { IsDue hub.old.scenario
             (state_of hub.old.scenario hub.old.entries) input }
+        requires within { IsInWindow hub.old input }
         requires own { is_same_actor self.old.who (actor_of input) ≡ true }
         requires few { length hub.old.entries < ENTRIES_MAX }
         ensures entry { OnOk result (hub.new
@@ -153,7 +155,7 @@ impl QueryActor {
     }
 
     /// The next query, an event of the hub. Ok(false) exactly where there is none up to `until`, in
-    /// ns of the scenario, and up to the end of the run. Events exactly where there is one, and the
+    /// ns of the scenario, in the hub's window, and up to the end of the run. Events exactly where there is one, and the
     /// hub has `ENTRIES_MAX` entries. A refusal leaves hub and queries as they were.
     pub fn event(&mut self, hub: &mut Hub, until: u64) -> Result<bool, HubError>
         requires level { IsLevel hub.old self.old }
@@ -171,7 +173,7 @@ impl QueryActor {
         hub.rules();
         self.kind();
         match self.due(hub) {
-            Some(tick) if tick <= until => {}
+            Some(tick) if tick <= last_tick(hub, until) => {}
             _ => return Ok(false),
         }
         if hub.entries().len() >= ENTRIES_MAX as usize {

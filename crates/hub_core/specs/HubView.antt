@@ -16,24 +16,27 @@ use Rattle.bc_history.specs.declared.entry.Seen.{Seen}
 use Rattle.bc_history.specs.declared.scenario.Scenario.{Scenario}
 use Rattle.bc_history.specs.Phases.EntryEffects.{entry_after}
 use Rattle.bc_history.specs.Run.History.{IsHistory}
-use Rattle.bc_history.specs.Phases.Inputs.{IsReadTime, IsTime, port_of}
+use Rattle.bc_history.specs.Phases.Inputs.{IsReadTime, IsTime, port_of, tick_of}
 use Rattle.bc_history.specs.Scenario.ScenarioRules.{IsScenario}
 use Rattle.bc_history.specs.Phases.Step.{state_of}
+use Rattle.bc_windows.specs.Windows.{IsInBound, IsMadeBy, Window}
+use Rattle.hub_core.specs.GivenWindows.{windows_of}
 use Rattle.hub_core.specs.HubParts.{PartsRepresent}
 use Rattle.hub_core.specs.PortReading.{input_seen}
 use Rattle.hub_core.specs.declared.adjust.PlainRefused.{PlainRefused}
 use Rattle.hub_core.specs.declared.adjust.PlainRefused.TheVariants.{NoMemory as Lacks, Refused as Is_refused}
 use Rattle.hub_core.specs.declared.hub.Hub.TheInside.{Inside}
 
--- entries and logs have the newest first; the logs are by rising clock
+-- entries, logs and the windows that it was given have the newest first; the logs are by rising clock
 pub record HubState : Type 0 where
   pub scenario : Scenario
   pub entries : List Entry
   pub logs : List (List LogEntry)
+  pub windows : List Window
 
 -- before the first entry
 abbrev pub hub_at_opening : Scenario → HubState
-hub_at_opening s = record { scenario = s; entries = []; logs = no_logs s.clocks }
+hub_at_opening s = record { scenario = s; entries = []; logs = no_logs s.clocks; windows = [] }
 
 -- the input is a port's own
 abbrev pub IsPortInput : Input → Type 0
@@ -70,6 +73,15 @@ clock_reading h clock =
 -- the hub once a change was taken: it is the newest entry of its clock's log
 abbrev pub with_change : HubState → ℕ → LogEntry → HubState
 with_change h clock change = record h { logs = with_log_entry h.logs clock change }
+
+-- the hub once another window was given, which begins with its history
+abbrev pub with_window : HubState → ℕ → HubState
+with_window h end =
+    record h { windows = record { end = end; begun = h.entries } ∷ h.windows }
+
+-- the hub takes an input up to the end of its present window
+abbrev pub IsInWindow : HubState → Input → Type 0
+IsInWindow h input = IsInBound h.windows (tick_of input)
 
 -- what an exchange is answered, where there is memory for it
 abbrev pub IsAnswerOf : Result Receipt Refused → Result Receipt PlainRefused → Type 0
@@ -110,6 +122,7 @@ pub record IsHub (i : Inside) : Type 0 where
   pub rules : IsScenario i.scenario.value
   pub history : IsHistory i.scenario.value (history_of i)
   pub times : All IsReadTime (history_of i)
+  pub windows : IsMadeBy i.scenario.value (windows_of i.windows) (history_of i)
   pub machine : PartsRepresent i.scenario.value i.machine (state_of i.scenario.value (history_of i))
   pub gener : i.machine.roles.generation.gener ≤ length i.entries
   pub few_asked : i.asked ≤ length i.entries

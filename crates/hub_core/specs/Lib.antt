@@ -3,4 +3,5 @@ pub mod FollowerInputs
 pub mod EffectRooms
 pub mod EffectParts
 pub mod HubParts
+pub mod GivenWindows
 pub mod HubView

@@ -9,12 +9,14 @@ ghost use Rattle.bc_history.specs.Scenario.ScenarioRules.{IsScenario};
 ghost use Rattle.bc_history.specs.Run.NextInputs.{IsDue};
 ghost use Rattle.bc_history.specs.Phases.HubPort.{HubPort};
 ghost use Rattle.bc_history.specs.Phases.Step.{state_of};
+ghost use Rattle.bc_windows.specs.Windows.{IsMadeBy};
 ghost use Rattle.hub_core.specs.FollowerInputs.{IsServed};
-ghost use Rattle.hub_core.specs.HubView.{AreLawfulLogs, HubState, HubYields, IsMeasuredTime, draft_entry, entry_by, newest_seen, hub_at_opening, reading_at, with_entry};
+ghost use Rattle.hub_core.specs.HubView.{AreLawfulLogs, HubState, HubYields, IsInWindow, IsMeasuredTime, draft_entry, entry_by, newest_seen, hub_at_opening, reading_at, with_entry};
 
 use crate::effect_copies::trimmed_entry;
 use crate::effect_rooms::{EffectCopies, EffectRooms};
 use crate::hub_parts::HubParts;
+use crate::windows::GivenWindows;
 use bc_history::{Effects, Entries, Entry, Input, Logs, Scenario};
 use ptp_base::{ENTRIES_MAX, Items, NoMemory};
 use ptp_profile::Timer;
@@ -44,7 +46,7 @@ impl From<NoMemory> for HubError {
 
 /// A boundary clock, one event at a time: its ports decide by the best master clock algorithm, and
 /// what drives each clock follows from that. Contracts see the scenario that it was made with, its
-/// history and the clocks' logs, the newest entry first.
+/// history, the clocks' logs and the windows that it was given, the newest first.
 #[derive(Drop)]
 pub struct Hub {
     pub(crate) alloc: Global,
@@ -55,14 +57,16 @@ pub struct Hub {
     pub(crate) asked: u32,
     /// The sequence of the next request: how many requests there were, modulo 65,536.
     pub(crate) sequence: u16,
+    pub(crate) windows: GivenWindows,
 }
 
 impl Model for Hub {
+    ghost use Rattle.hub_core.specs.GivenWindows.{windows_of};
     ghost use Rattle.hub_core.specs.HubView.{HubState, history_of, IsHub};
 
     ghost Value = { HubState };
 
-    ghost view = { λ i. record { scenario = i.scenario.value; entries = history_of i; logs = i.machine.roles.seats.logs } };
+    ghost view = { λ i. record { scenario = i.scenario.value; entries = history_of i; logs = i.machine.roles.seats.logs; windows = windows_of i.windows } };
 
     ghost invariant = { IsHub };
 }
@@ -80,15 +84,17 @@ impl Hub {
             entries: Items::new(alloc),
             asked: 0,
             sequence: 0,
+            windows: GivenWindows::none(),
         })
     }
 
     /// One event: the history has one entry more, with the reading of the port's clock where the
     /// input comes with one, and its orders stand in the logs. The input is the next one of its actor,
-    /// and due. Events exactly where the history has `ENTRIES_MAX` entries. A refusal leaves the hub
+    /// due, and up to the end of the present window, if there is one. Events exactly where the history has `ENTRIES_MAX` entries. A refusal leaves the hub
     /// as it was.
     pub fn event(&mut self, input: Input) -> Result<Effects, HubError>
         requires due { IsDue self.old.scenario (state_of self.old.scenario self.old.entries) input }
+        requires within { IsInWindow self.old input }
         ensures events { (result ≡ Err HubError.Events) ↔ (length self.old.entries ≡ ENTRIES_MAX) }
         ensures entry { OnOk result (self.new
             ≡ with_entry self.old (entry_by self.old input (newest_seen self.new.entries))) }
@@ -110,6 +116,7 @@ impl Hub {
     /// One event of a port or of a follower, where the history has a place for it.
     fn serve(&mut self, input: Input) -> Result<Effects, NoMemory>
         requires due { IsDue self.old.scenario (state_of self.old.scenario self.old.entries) input }
+        requires within { IsInWindow self.old input }
         requires own { IsServed input }
         requires few { length self.old.entries < ENTRIES_MAX }
         ensures yields { IfOk result (HubYields self.old input self.new) }
@@ -149,12 +156,13 @@ impl Hub {
     }
 
     /// Says what always holds of a hub: its scenario keeps the rules; its entries are a history of the
-    /// scenario, and read times; its logs are lawful, one for each clock. It changes nothing: who
-    /// calls it is told so.
+    /// scenario, read times, and lie in the windows that it was given; its logs are lawful, one for
+    /// each clock. It changes nothing: who calls it is told so.
     pub fn rules(&self)
         ensures scenario { IsScenario self.now.scenario }
         ensures history { IsHistory self.now.scenario self.now.entries }
         ensures times { All IsReadTime self.now.entries }
+        ensures windows { IsMadeBy self.now.scenario self.now.windows self.now.entries }
         ensures lawful { AreLawfulLogs self.now }
         ensures logs { length self.now.logs ≡ length self.now.scenario.clocks }
     {

@@ -15,6 +15,7 @@ mod opening;
 mod own_input;
 mod query;
 mod reply;
+mod windows;
 
 pub use adjust::PlainRefused;
 pub use bc_history::{

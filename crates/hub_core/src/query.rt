@@ -5,7 +5,7 @@ ghost use Rattle.ptp_base.specs.declared.limits.TheConstants.{ENTRIES_MAX};
 ghost use Rattle.bc_history.specs.declared.entry.Input.TheVariants.{Query};
 ghost use Rattle.bc_history.specs.Phases.Step.{state_of};
 ghost use Rattle.bc_history.specs.Run.NextInputs.{IsDue};
-ghost use Rattle.hub_core.specs.HubView.{HubYields};
+ghost use Rattle.hub_core.specs.HubView.{HubYields, IsInWindow};
 
 use crate::effects::{query_effects, query_entry};
 use crate::hub::Hub;
@@ -19,6 +19,7 @@ impl Hub {
     pub(crate) fn take_query(&mut self, tick: u64, text: Octets) -> Result<Effects, NoMemory>
         requires due { IsDue self.old.scenario (state_of self.old.scenario self.old.entries)
             (Query tick text) }
+        requires within { IsInWindow self.old (Query tick text) }
         requires few { length self.old.entries < ENTRIES_MAX }
         ensures yields { IfOk result (HubYields self.old (Query tick text) self.new) }
         ensures same { OnErr result (self.new ≡ self.old) }

@@ -28,13 +28,15 @@ use Rattle.run_legal.specs.Runs.LegalRuns.{IsLegal}
 use Rattle.run_legal.proofs.lemmas.NamedEndLemmas.{run-legal}
 use Rattle.run_legal.proofs.lemmas.StepLemmas.{stays-right}
 use Rattle.bc_replay.specs.declared.run.ReplayError.{ReplayError}
-use Rattle.bc_replay.specs.declared.run.ReplayError.TheVariants.{NoMemory as Lacks, Events as Too_many, NotDue as Has_no_step}
-use Rattle.bc_replay.specs.ActorLoop.{AreIn, AreJobsDue, AreLevel, IsUnscheduledLoop, LoopRepresents, actor_at_opening, free_steps_of, steps_left}
+use Rattle.hub_core.specs.declared.hub.HubError.{HubError}
+use Rattle.hub_core.specs.declared.hub.HubError.TheVariants.{NoMemory as Lacks, Events as Too_many}
+use Rattle.bc_replay.specs.ActorLoop.{AllStandIn, AreIn, AreJobsDue, AreLevel, IsUnscheduledLoop, LoopRepresents, actor_at_opening, free_steps_of, steps_left}
 use Rattle.bc_replay.specs.ActorSteps.{IsStepError, IsTurnError, StepLeadsTo, StepYields, TurnYields}
 use Rattle.bc_replay.specs.ActorTurns.{HasNoTurn, IsDueAt, IsIdle, IsNamed, IsTurnOf, IsTurnerAt, turner_or_default}
-use Rattle.bc_replay.specs.ReplayError.{IsReplayError}
+use Rattle.bc_replay.specs.ReplayError.{IsReplayError, by_hub}
 use Rattle.bc_replay.proofs.lemmas.ActorListLemmas.{each-set, map-set}
 use Rattle.bc_replay.proofs.lemmas.ActorPlaceLemmas.{ActsAt, acting-apart, acting-at, acting-follower, acting-port, acting-queries, entries-other, placed-entries, placed-logs, placed-other, placed-own}
+use Rattle.bc_replay.proofs.lemmas.ActorsAfterLemmas.{all-stand-after, who-at, windows-after}
 use Rattle.bc_replay.proofs.lemmas.ActorStepLemmas.{due-ready, step-none}
 use Rattle.bc_replay.proofs.lemmas.DefaultTurnLemmas.{turn-all}
 use Rattle.bc_history.proofs.lemmas.CoreInvariantLemmas.{option_map-some}
@@ -110,19 +112,26 @@ places-opening s i a there =
     let (who, at, is) = made-for s (actors_of s) i a there in
     subst (λ (b : ActorState). place_of (world_opening s) b.who ≡ Some b.place) is (acting-opening s i who (acting-at s i who at))
 
--- a hub and its actors begin where the World does
-pub Loop-opening : (s : Scenario) → LoopRepresents s 0 (hub_at_opening s) (map (actor_at_opening s) (actors_of s))
-unfolding status_after
-Loop-opening s = record {
+-- a hub and its actors stand where the World begins
+pub all-opening : (s : Scenario) → AllStandIn s (world_opening s) (hub_at_opening s) (map (actor_at_opening s) (actors_of s))
+all-opening s = record {
   scenario = refl;
   few = omega arith;
   acting = whos-opening s (actors_of s);
   level = level-opening s (actors_of s);
   jobs = jobs-opening s (actors_of s);
-  bound = let none = free-opening s (actors_of s) in omega (arith, none);
-  world = world_opening s;
-  going = refl;
   stand = record { entries = refl; logs = refl; places = places-opening s };
+}
+
+-- so they begin where the World does
+pub Loop-opening : (s : Scenario) → LoopRepresents s 0 (hub_at_opening s) (map (actor_at_opening s) (actors_of s))
+unfolding status_after
+Loop-opening s = record {
+  world = world_opening s;
+  all = all-opening s;
+  unbounded = refl;
+  bound = let none = free-opening s (actors_of s) in omega (arith, none);
+  going = refl;
 }
 
 -- ---- a turn
@@ -130,11 +139,6 @@ Loop-opening s = record {
 -- a loop where the World is, by its hub's own scenario
 abbrev IsAt : ℕ → HubState → List ActorState → Type 0
 IsAt taken hub actors = LoopRepresents hub.scenario taken hub actors
-
--- who an actor of the loop is
-pub who-at : (s : Scenario) (actors : List ActorState) (i : ℕ) (a : ActorState) → map who_of actors ≡ actors_of s → slice_get actors i ≡ Some a → slice_get (actors_of s) i ≡ Some a.who
-who-at s actors i a acting there =
-    ap (λ (whos : List Who). slice_get whos i) (sym acting) ∙ (slice_get-map who_of actors i ∙ ap (λ (o : Option ActorState). option_map who_of o) there)
 
 -- an actor stands in the World
 stands-in : (hub : HubState) (w : World) (actors : List ActorState) (i : ℕ) (a : ActorState) → AreIn w hub actors → slice_get actors i ≡ Some a → IsIn w hub a
@@ -149,7 +153,7 @@ named-turn hub w actors (Clock_turn c) who stand acting named = ap Some (sym nam
 named-turn hub w actors Queries_turn who stand acting named = ap Some (sym named)
 
 -- whom an index is of
-actor-of : (actors : List ActorState) (i : ℕ) (who : Who) → slice_get (map who_of actors) i ≡ Some who → (a : ActorState) × (slice_get actors i ≡ Some a) × (who_of a ≡ who)
+pub actor-of : (actors : List ActorState) (i : ℕ) (who : Who) → slice_get (map who_of actors) i ≡ Some who → (a : ActorState) × (slice_get actors i ≡ Some a) × (who_of a ≡ who)
 actor-of actors i who there = option_map-some who_of (slice_get actors i) who (sym (slice_get-map who_of actors i) ∙ there)
 
 -- an actor that is idle has no step in the World
@@ -197,58 +201,12 @@ turn-leads : (hub : HubState) (taken : ℕ) (actors : List ActorState) (turner :
     → StepLeadsTo hub turn.at.actor next → status_after hub.scenario (taken + 1) ≡ next at.world
 turn-leads hub taken actors turner i turn next at is leads =
     let s = hub.scenario in
-    let named = named-turn hub at.world actors turner turn.at.actor.who at.stand at.acting turn.named in
+    let named = named-turn hub at.world actors turner turn.at.actor.who at.all.stand at.all.acting turn.named in
     turn-status hub taken actors turner at is
     ∙ (ap (λ (o : Option Who). take_step at.world (end_at s taken at.world (turner_at s.turns taken)) (option_and_then (step_of s at.world) o)) named
-    ∙ leads at.world (end_at s taken at.world (turner_at s.turns taken)) (stands-in hub at.world actors i turn.at.actor at.stand turn.at.there))
+    ∙ leads at.world (end_at s taken at.world (turner_at s.turns taken)) (stands-in hub at.world actors i turn.at.actor at.all.stand turn.at.there))
 
--- ---- what a step leaves
-
--- the history has one entry more, of the actor, or is as before
-abbrev GoesOn : Who → HubState → HubState → Type 0
-GoesOn who old new = AddsOwn who old new ⊎ IsSameHistory old new
-
-scenario-after : (who : Who) (old new : HubState) → GoesOn who old new → new.scenario ≡ old.scenario
-scenario-after who old new (inl adds) = adds.scenario
-scenario-after who old new (inr same) = same.scenario
-
--- another actor's entries are as before
-level-after : (who : Who) (old new : HubState) (x : ActorState) → GoesOn who old new → is_same_actor x.who who ≡ false → IsLevel old x → IsLevel new x
-level-after who old new x (inl adds) differ level = record {
-  scenario = level.scenario ∙ sym adds.scenario;
-  entries = ap (entries_of x.who) adds.more ∙ (entries-other who x.who adds.entry old.entries adds.own differ ∙ level.entries);
-}
-level-after who old new x (inr same) differ level = record {
-  scenario = level.scenario ∙ sym same.scenario;
-  entries = ap (entries_of x.who) same.entries ∙ level.entries;
-}
-
--- the actor stands in the World behind its step
-own-after : (w : World) (hub new : HubState) (a b : ActorState) → IsSameActor a b → IsPlaceOf b.who b.place → place_of w a.who ≡ Some a.place → place_of (world_with w new b) b.who ≡ Some b.place
-own-after w hub new a b same kind there =
-    placed-own (record w { entries = new.entries; logs = new.logs }) b.who b.place a.place kind (ap (place_of w) same.who ∙ there)
-
--- and each other one
-other-after : (w : World) (new : HubState) (b x : ActorState) → is_same_actor x.who b.who ≡ false → place_of w x.who ≡ Some x.place → place_of (world_with w new b) x.who ≡ Some x.place
-other-after w new b x differ there = placed-other (record w { entries = new.entries; logs = new.logs }) b.who x.who b.place differ ∙ there
-
--- another actor of the loop is another
-who-apart : (s : Scenario) (actors : List ActorState) (i j : ℕ) (a x : ActorState) → map who_of actors ≡ actors_of s → slice_get actors i ≡ Some a → slice_get actors j ≡ Some x → j ≢ i → is_same_actor x.who a.who ≡ false
-who-apart s actors i j a x acting there other differ = acting-apart s j i x.who a.who (who-at s actors j x acting other) (who-at s actors i a acting there) differ
-
-stand-after : (hub new : HubState) (taken : ℕ) (actors : List ActorState) (i : ℕ) (at : IsDueAt hub actors i) (b : ActorState) (loop : IsAt taken hub actors) → StepYields hub at.actor new b
-    → AreIn (world_with loop.world new b) new (slice_set actors i b)
-stand-after hub new taken actors i at b loop made =
-    let w : World = record loop.world { entries = new.entries; logs = new.logs } in
-    record {
-      entries = placed-entries w b.who b.place;
-      logs = placed-logs w b.who b.place;
-      places = each-set (λ (j : ℕ) (x : ActorState). place_of (world_with loop.world new b) x.who ≡ Some x.place) actors i b
-          (λ j x differ there. other-after loop.world new b x
-          (subst (λ (who : Who). is_same_actor x.who who ≡ false) (sym made.actor.who) (who-apart hub.scenario actors i j at.actor x loop.acting at.there there differ))
-          (loop.stand.places j x there))
-          (own-after loop.world hub new at.actor b made.actor made.kind (loop.stand.places i at.actor at.there));
-    }
+-- ---- a step
 
 -- of the sum of all, the part that one has
 less-of : (room room' sum sum' one one' : ℕ) → sum' + one ≡ sum + one' → room' + one' < room + one → room' + sum' < room + sum
@@ -267,23 +225,15 @@ fewer-after hub new actors i a b there less =
 step-by : (hub new : HubState) (taken : ℕ) (actors : List ActorState) (turner : Turner) (i : ℕ) (turn : IsTurnOf hub actors turner i) (b : ActorState) → IsAt taken hub actors → IsTurnerAt hub.scenario taken turner
     → StepYields hub turn.at.actor new b → LoopRepresents hub.scenario (taken + 1) new (slice_set actors i b)
 step-by hub new taken actors turner i turn b at is made =
-    let s = hub.scenario in
     let a = turn.at.actor in
     let less = fewer-after hub new actors i a b turn.at.there made.fewer in
     let bound = at.bound in
     record {
-      scenario = scenario-after a.who hub new made.history;
-      few = made.few;
-      acting = map-set who_of actors i a b turn.at.there made.actor.who ∙ at.acting;
-      level = each-set (λ (j : ℕ) (x : ActorState). IsLevel new x) actors i b
-          (λ j x differ there. level-after a.who hub new x made.history (who-apart s actors i j a x at.acting turn.at.there there differ) (at.level j x there)) made.level;
-      jobs = each-set (λ (j : ℕ) (x : ActorState). IsJobDue s x.place) actors i b
-          (λ j x differ there. at.jobs j x there)
-          (subst (λ (t : Scenario). IsJobDue t b.place) (made.actor.scenario ∙ (at.level i a turn.at.there).scenario) made.job);
-      bound = omega (arith, bound, less);
       world = world_with at.world new b;
+      all = all-stand-after hub.scenario at.world hub new actors i a b turn.at.there at.all made;
+      unbounded = windows-after a.who hub new made.history ∙ at.unbounded;
+      bound = omega (arith, bound, less);
       going = turn-leads hub taken actors turner i turn (λ (w : World). Going (world_with w new b)) at is made.going;
-      stand = stand-after hub new taken actors i turn.at b at made;
     }
 
 -- each step keeps to the World
@@ -291,7 +241,7 @@ pub Loop-step : (s : Scenario) (taken : ℕ) (hub new : HubState) (actors : List
     → StepYields hub turn.at.actor new b → LoopRepresents s (taken + 1) new (slice_set actors i b)
 Loop-step s taken hub new actors turner i b turn at is made =
     let P : Scenario → Type 0 = λ (t : Scenario). LoopRepresents t taken hub actors → IsTurnerAt t taken turner → LoopRepresents t (taken + 1) new (slice_set actors i b) in
-    let by : P s = subst P at.scenario (λ l m. step-by hub new taken actors turner i turn b l m made) in
+    let by : P s = subst P at.all.scenario (λ l m. step-by hub new taken actors turner i turn b l m made) in
     by at is
 
 -- ---- the ends
@@ -303,14 +253,14 @@ none-status : (hub : HubState) (taken : ℕ) (actors : List ActorState) (turner 
 none-status hub taken actors turner at is there none =
     turn-status hub taken actors turner at is
     ∙ ap (λ (step : Option Step). take_step at.world (end_at hub.scenario taken at.world (turner_at hub.scenario.turns taken)) step)
-    (no-turn hub at.world actors turner at.stand at.acting at.jobs there none)
+    (no-turn hub at.world actors turner at.all.stand at.all.acting at.all.jobs there none)
 
 none-by : (hub : HubState) (taken : ℕ) (actors : List ActorState) → IsAt taken hub actors → turner_at hub.scenario.turns taken ≡ None → HasNoTurn hub actors Default
     → (w : World) × (w.entries ≡ hub.entries) × (w.logs ≡ hub.logs) × IsWorld hub.scenario (run_of hub.scenario w)
 none-by hub taken actors at past none = (
   at.world,
-  at.stand.entries,
-  at.stand.logs,
+  at.all.stand.entries,
+  at.all.stand.logs,
   (
     taken + 1,
     none-status hub taken actors Default at (ap turner_or_default past) tt none
@@ -323,7 +273,7 @@ pub Loop-done : (s : Scenario) (taken : ℕ) (hub : HubState) (actors : List Act
     → (w : World) × (w.entries ≡ hub.entries) × (w.logs ≡ hub.logs) × IsWorld s (run_of s w)
 Loop-done s taken hub actors at past none =
     let P : Scenario → Type 0 = λ (t : Scenario). LoopRepresents t taken hub actors → turner_at t.turns taken ≡ None → (w : World) × (w.entries ≡ hub.entries) × (w.logs ≡ hub.logs) × IsWorld t (run_of t w) in
-    let by : P s = subst P at.scenario (λ l m. none-by hub taken actors l m none) in
+    let by : P s = subst P at.all.scenario (λ l m. none-by hub taken actors l m none) in
     by at past
 
 stop-by : (hub : HubState) (taken : ℕ) (actors : List ActorState) (turner : Turner) → IsAt taken hub actors → turner_at hub.scenario.turns taken ≡ Some turner
@@ -339,7 +289,7 @@ pub Loop-stops : (s : Scenario) (taken : ℕ) (hub : HubState) (actors : List Ac
     → IsTurnerOf (length s.clocks) (length s.ports) turner → HasNoTurn hub actors turner → IsEnd s (Not_due (taken + 1))
 Loop-stops s taken hub actors turner at line there none =
     let P : Scenario → Type 0 = λ (t : Scenario). LoopRepresents t taken hub actors → turner_at t.turns taken ≡ Some turner → IsTurnerOf (length t.clocks) (length t.ports) turner → IsEnd t (Not_due (taken + 1)) in
-    let by : P s = subst P at.scenario (λ l m k. stop-by hub taken actors turner l m k none) in
+    let by : P s = subst P at.all.scenario (λ l m k. stop-by hub taken actors turner l m k none) in
     by at line there
 
 full-by : (hub : HubState) (taken : ℕ) (actors : List ActorState) (turner : Turner) (i : ℕ) (turn : IsTurnOf hub actors turner i) → IsAt taken hub actors → IsTurnerAt hub.scenario taken turner
@@ -351,17 +301,16 @@ pub Loop-full : (s : Scenario) (taken : ℕ) (hub : HubState) (actors : List Act
     → IsStepError hub turn.at.actor Too_many → IsEnd s Events
 Loop-full s taken hub actors turner i turn at is full =
     let P : Scenario → Type 0 = λ (t : Scenario). LoopRepresents t taken hub actors → IsTurnerAt t taken turner → IsEnd t Events in
-    let by : P s = subst P at.scenario (λ l m. full-by hub taken actors turner i turn l m full) in
+    let by : P s = subst P at.all.scenario (λ l m. full-by hub taken actors turner i turn l m full) in
     by at is
 
 -- ---- what the code asks
 
 -- the reason why an actor took no step is one of the scenario
-turn-error : (s : Scenario) (taken : ℕ) (hub : HubState) (actors : List ActorState) (turner : Turner) (i : ℕ) (turn : IsTurnOf hub actors turner i) (error : ReplayError) → LoopRepresents s taken hub actors → IsTurnerAt s taken turner
-    → IsStepError hub turn.at.actor error → IsReplayError s error
+turn-error : (s : Scenario) (taken : ℕ) (hub : HubState) (actors : List ActorState) (turner : Turner) (i : ℕ) (turn : IsTurnOf hub actors turner i) (error : HubError) → LoopRepresents s taken hub actors → IsTurnerAt s taken turner
+    → IsStepError hub turn.at.actor error → IsReplayError s (by_hub error)
 turn-error s taken hub actors turner i turn Lacks at line is = tt
 turn-error s taken hub actors turner i turn Too_many at line is = Loop-full s taken hub actors turner i turn at line is
-turn-error s taken hub actors turner i turn (Has_no_step t) at line is = absurd is
 
 -- a turn that was taken keeps to the World
 pub taken-step : (s : Scenario) (taken : ℕ) (hub new : HubState) (actors after : List ActorState) (turner : Turner) (i : ℕ) → IsTurnOf hub actors turner i → LoopRepresents s taken hub actors → IsTurnerAt s taken turner
@@ -378,8 +327,8 @@ taken-fewer hub new actors after i made =
     (fewer-after hub new actors i made.actor made.after made.there made.step.fewer)
 
 -- a turn that was not taken says how the scenario ends
-pub taken-error : (s : Scenario) (taken : ℕ) (hub : HubState) (actors : List ActorState) (turner : Turner) (i : ℕ) (error : ReplayError) → IsTurnOf hub actors turner i → LoopRepresents s taken hub actors → IsTurnerAt s taken turner
-    → IsTurnError hub actors i error → IsReplayError s error
+pub taken-error : (s : Scenario) (taken : ℕ) (hub : HubState) (actors : List ActorState) (turner : Turner) (i : ℕ) (error : HubError) → IsTurnOf hub actors turner i → LoopRepresents s taken hub actors → IsTurnerAt s taken turner
+    → IsTurnError hub actors i error → IsReplayError s (by_hub error)
 taken-error s taken hub actors turner i error turn at line is = turn-error s taken hub actors turner i turn error at line (is turn.at.actor turn.at.there)
 
 -- the run that the hub parts with is that of the World
@@ -390,7 +339,7 @@ finished s hub actors entries logs at none entries_are logs_are =
     let made : List Entry → List Log → Run = λ (es : List Entry) (ls : List Log). record { entries = es; logs = ls } in
     let entries_of_w : entries ≡ reverse w.entries = entries_are ∙ ap reverse (sym has) in
     let logs_of_w : logs ≡ logs_from 0 s.clocks w.logs =
-    logs_are ∙ (ap (λ (t : Scenario). logs_from 0 t.clocks hub.logs) at.loop.scenario ∙ ap (logs_from 0 s.clocks) (sym logged)) in
+    logs_are ∙ (ap (λ (t : Scenario). logs_from 0 t.clocks hub.logs) at.loop.all.scenario ∙ ap (logs_from 0 s.clocks) (sym logged)) in
     let same : made entries logs ≡ run_of s w = ap (λ (es : List Entry). made es logs) entries_of_w ∙ ap (λ (ls : List Log). made (reverse w.entries) ls) logs_of_w in
     subst (IsWorld s) (sym same) world
 
@@ -438,14 +387,15 @@ lent-there hub actors i x at is = at.there ∙ ap Some (indexed actors i at.acto
 pub lent-level : (hub : HubState) (actors : List ActorState) (i : ℕ) (x : ActorState) → AreLevel hub actors → IsDueAt hub actors i → x ≡ get_or actors i x → IsLevel hub x
 lent-level hub actors i x level at is = level i x (lent-there hub actors i x at is)
 
-pub lent-ready : (hub : HubState) (actors : List ActorState) (i until : ℕ) (x : ActorState) → IsDueAt hub actors i → x ≡ get_or actors i x → until ≡ hub.scenario.options.duration → is_ready until hub x ≡ true
-lent-ready hub actors i until x at is until_is =
-    due-ready hub x at.tick until (ap (due_tick hub) (sym (indexed actors i at.actor x at.there is)) ∙ at.due) until_is
+pub lent-ready : (hub : HubState) (actors : List ActorState) (i until : ℕ) (x : ActorState) → IsDueAt hub actors i → x ≡ get_or actors i x → until ≡ hub.scenario.options.duration → hub.windows ≡ []
+    → is_ready until hub x ≡ true
+lent-ready hub actors i until x at is until_is unbounded =
+    due-ready hub x at.tick until (ap (due_tick hub) (sym (indexed actors i at.actor x at.there is)) ∙ at.due) until_is unbounded
 
 pub lent-step : (hub new : HubState) (actors after : List ActorState) (i : ℕ) (x b : ActorState) → IsDueAt hub actors i → x ≡ get_or actors i x → after ≡ slice_set actors i b → StepYields hub x new b → TurnYields hub actors i new after
 lent-step hub new actors after i x b at is others made = record { actor = x; there = lent-there hub actors i x at is; after = b; step = made; others = others }
 
-pub lent-error : (hub : HubState) (actors : List ActorState) (i : ℕ) (x : ActorState) (error : ReplayError) → IsDueAt hub actors i → x ≡ get_or actors i x → IsStepError hub x error → IsTurnError hub actors i error
+pub lent-error : (hub : HubState) (actors : List ActorState) (i : ℕ) (x : ActorState) (error : HubError) → IsDueAt hub actors i → x ≡ get_or actors i x → IsStepError hub x error → IsTurnError hub actors i error
 lent-error hub actors i x error at is cause = λ a there.
     subst (λ (y : ActorState). IsStepError hub y error) (same_Some x a (sym (lent-there hub actors i x at is) ∙ there)) cause
 

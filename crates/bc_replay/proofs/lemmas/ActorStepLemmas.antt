@@ -1,5 +1,5 @@
 -- The steps of an actor, and what it means that the hub took none.
-use Rattle.std.proofs.Common.{◌≡◌, ℕ, suc, ◌<◌, ◌≤◌, Bool, true, false, cond, leb, refl, sym, ap, ◌∙◌, subst, arith, inl, inr, length, Option, Some, None, option_and_then, le-leb}
+use Rattle.std.proofs.Common.{◌≡◌, ℕ, suc, ◌<◌, ◌≤◌, Bool, true, false, cond, leb, refl, sym, ap, ◌∙◌, subst, arith, inl, inr, length, [], Option, Some, None, option_and_then, le-leb}
 use Rattle.std.proofs.lemmas.Bool.{cases_lt, lt-leb}
 use Rattle.std.specs.Prelude.{option_map, slice_get, IfErr, IsErrAnd, Result, Ok, Err}
 use Rattle.ptp_base.specs.declared.limits.TheConstants.{ENTRIES_MAX}
@@ -24,10 +24,8 @@ use Rattle.bc_history.specs.Run.World.{End, Ended, Event, Events, Going, Of_foll
 use Rattle.hub_core.specs.HubView.{HubState}
 use Rattle.hub_core.specs.declared.hub.HubError.{HubError}
 use Rattle.hub_core.specs.declared.hub.HubError.TheVariants.{NoMemory as Hub_no_memory, Events as Hub_events}
-use Rattle.bc_steps.specs.ActorView.{ActorState, AddsOwn, IsIn, IsJobDue, IsLevel, IsPlaceOf, IsSameActor, due_tick, is_ready, world_with}
+use Rattle.bc_steps.specs.ActorView.{ActorState, AddsOwn, IsIn, IsJobDue, IsLevel, IsPlaceOf, IsSameActor, due_tick, is_ready, last_tick, world_with}
 use Rattle.bc_replay.specs.ActorSteps.{IsStepError, StepLeadsTo, StepYields}
-use Rattle.bc_replay.specs.declared.run.ReplayError.{ReplayError}
-use Rattle.bc_replay.specs.ReplayError.{by_hub}
 
 -- a step that is an event of the hub
 abbrev IsEvent : Option Step → Type 0
@@ -58,10 +56,10 @@ pub due_by_end-is : (s : Scenario) (h : State) (who : Who) (place : Place) (tick
 due_by_end-is s h who place tick at = due-place s h who place (place_due s h who place) tick refl at
 
 -- what is due before the run ends is ready by its end
-pub due-ready : (hub : HubState) (a : ActorState) (tick until : ℕ) → due_tick hub a ≡ Some tick → until ≡ hub.scenario.options.duration → is_ready until hub a ≡ true
-due-ready hub a tick until due until_is =
+pub due-ready : (hub : HubState) (a : ActorState) (tick until : ℕ) → due_tick hub a ≡ Some tick → until ≡ hub.scenario.options.duration → hub.windows ≡ [] → is_ready until hub a ≡ true
+due-ready hub a tick until due until_is unbounded =
     let in_time = (due_by_end-is hub.scenario (state_of hub.scenario hub.entries) a.who a.place tick due).1 in
-    rw (due, until_is) in_time
+    rw (due, until_is, unbounded) in_time
 
 ready-by : (until : ℕ) (due : Option ℕ) → holds (λ (t : ℕ). leb t until) due ≡ true → (tick : ℕ) × (due ≡ Some tick)
 ready-by until None ready = cc
@@ -69,7 +67,7 @@ ready-by until (Some tick) ready = (tick, refl)
 
 -- what is ready is due
 pub ready-due : (until : ℕ) (hub : HubState) (a : ActorState) → is_ready until hub a ≡ true → (tick : ℕ) × (due_tick hub a ≡ Some tick)
-ready-due until hub a ready = ready-by until (due_tick hub a) ready
+ready-due until hub a ready = ready-by (last_tick hub until) (due_tick hub a) ready
 
 -- ---- from a place that is inside the step is an event
 
@@ -153,15 +151,15 @@ full-leads until hub a ready inside full = λ w end stands.
     ap (take_step w end) (step-at s w a.who a.place stands.place) ∙ full-event w end (step_from s w a.who a.place) event (omega (arith, many))
 
 -- what it means that the hub took no event
-pub refused-step : (until : ℕ) (hub : HubState) (a : ActorState) (error : HubError) → is_ready until hub a ≡ true → is_inside a.place ≡ true
-    → (error ≡ Hub_events → length hub.entries ≡ ENTRIES_MAX) → IsStepError hub a (by_hub error)
-refused-step until hub a Hub_no_memory ready inside full = tt
-refused-step until hub a Hub_events ready inside full = full-leads until hub a ready inside (full refl)
+pub refused-step : (until : ℕ) (hub : HubState) (a : ActorState) (error : HubError) → is_inside a.place ≡ true
+    → (error ≡ Hub_events → (is_ready until hub a ≡ true) × (length hub.entries ≡ ENTRIES_MAX)) → IsStepError hub a error
+refused-step until hub a Hub_no_memory inside full = tt
+refused-step until hub a Hub_events inside full = full-leads until hub a (full refl).0 inside (full refl).1
 
-pub refused-result : {T : Type 0} (until : ℕ) (hub : HubState) (a : ActorState) (error : HubError) (result : Result T ReplayError) → is_ready until hub a ≡ true → is_inside a.place ≡ true
-    → (error ≡ Hub_events → length hub.entries ≡ ENTRIES_MAX) → IsErrAnd result (λ e. e ≡ by_hub error) → IfErr result (IsStepError hub a)
-refused-result until hub a error (Ok x) ready inside full is = tt
-refused-result until hub a error (Err e) ready inside full is = rw is (refused-step until hub a error ready inside full)
+pub refused-result : {T : Type 0} (until : ℕ) (hub : HubState) (a : ActorState) (error : HubError) (result : Result T HubError) → is_inside a.place ≡ true
+    → (error ≡ Hub_events → (is_ready until hub a ≡ true) × (length hub.entries ≡ ENTRIES_MAX)) → IsErrAnd result (λ e. e ≡ error) → IfErr result (IsStepError hub a)
+refused-result until hub a error (Ok x) inside full is = tt
+refused-result until hub a error (Err e) inside full is = rw is (refused-step until hub a error inside full)
 
 -- ---- what a step makes
 
@@ -179,21 +177,26 @@ few-free Of_queries = omega arith
 
 -- what an actor tells of its event
 pub record IsEventOf (until : ℕ) (hub : HubState) (a : ActorState) (new : HubState) (b : ActorState) (result : Result Bool HubError) : Type 0 where
-  pub ready : is_ready until hub a ≡ true
   pub few : length hub.entries ≤ ENTRIES_MAX
   pub step : (w : World) → result ≡ Ok true → IsIn w hub a → step_of hub.scenario w a.who ≡ Some (Event (world_with w new b))
-  pub waits : result ≡ Ok false → is_ready until hub a ≡ false
-  pub events : length hub.entries ≡ ENTRIES_MAX → result ≡ Err Hub_events
+  pub waits : is_ready until hub a ≡ false → result ≡ Ok false
+  pub events : is_ready until hub a ≡ true → length hub.entries ≡ ENTRIES_MAX → result ≡ Err Hub_events
   pub entry : result ≡ Ok true → AddsOwn a.who hub new
   pub level : IsLevel new b
   pub actor : IsSameActor a b
   pub kind : IsPlaceOf b.who b.place
   pub job : IsJobDue b.scenario b.place
 
-event-made : (until : ℕ) (hub new : HubState) (a b : ActorState) (result : Result Bool HubError) → IsEventOf until hub a new b result → result ≡ Ok true → StepYields hub a new b
+-- who took a step was ready
+taken-ready : (ready : Bool) (result : Result Bool HubError) → (ready ≡ false → result ≡ Ok false) → result ≡ Ok true → ready ≡ true
+taken-ready true result waits is = refl
+taken-ready false result waits is = let both : Ok true ≡ Ok false = sym is ∙ waits refl in cc
+
+pub event-made : (until : ℕ) (hub new : HubState) (a b : ActorState) (result : Result Bool HubError) → IsEventOf until hub a new b result → result ≡ Ok true → StepYields hub a new b
 event-made until hub new a b result made is =
     let adds = made.entry is in
-    let not_full : ¬ (length hub.entries ≡ ENTRIES_MAX) = λ full. let both : Ok true ≡ Err Hub_events = sym is ∙ made.events full in cc in
+    let not_full : ¬ (length hub.entries ≡ ENTRIES_MAX) = λ full.
+    let both : Ok true ≡ Err Hub_events = sym is ∙ made.events (taken-ready (is_ready until hub a) result made.waits is) full in cc in
     let room : length hub.entries < ENTRIES_MAX = below (length hub.entries) made.few not_full in
     let more : length new.entries ≡ suc (length hub.entries) = ap length adds.more in
     let free = few-free b.place in
@@ -214,10 +217,10 @@ event-made until hub new a b result made is =
       | inr full ↦ absurd (not (omega (arith, few, full)))
     ]
 
--- an event that an actor took
-pub event-yields : (until : ℕ) (hub new : HubState) (a b : ActorState) (result : Result Bool HubError) (taken : Bool) → IsEventOf until hub a new b result → result ≡ Ok taken → StepYields hub a new b
-event-yields until hub new a b result true made is = event-made until hub new a b result made is
-event-yields until hub new a b result false made is = let both : true ≡ false = sym made.ready ∙ made.waits is in cc
+-- a step that was taken where one was ready
+pub ready-taken : (ready taken : Bool) (P : Type 0) → ready ≡ true → (taken ≡ false → ready ≡ false) → (taken ≡ true → P) → P
+ready-taken ready true P is waits then = then refl
+ready-taken ready false P is waits then = let both : true ≡ false = sym is ∙ waits refl in absurd (cc)
 
 -- ---- where nothing is due there is no step
 

@@ -33,7 +33,7 @@ candidate-same hub w a entries there =
 -- ---- all
 
 -- all candidates are actors of the loop
-candidates-all : (hub : HubState) (w : World) (actors : List ActorState) → AreIn w hub actors
+pub candidates-all : (hub : HubState) (w : World) (actors : List ActorState) → AreIn w hub actors
     → map (λ (a : ActorState). a.who) actors ≡ actors_of hub.scenario → candidates hub.scenario w ≡ due_actors hub actors
 candidates-all hub w actors stand acting =
     let s = hub.scenario in

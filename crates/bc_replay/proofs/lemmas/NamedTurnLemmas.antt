@@ -14,7 +14,7 @@ use Rattle.hub_core.specs.HubView.{HubState}
 use Rattle.bc_steps.specs.ActorView.{ActorState, due_tick}
 use Rattle.bc_history.specs.Run.Actors.{actors_of}
 use Rattle.bc_replay.specs.ActorTurns.{HasNoTurn, IsDueAt, IsTurnOf}
-use Rattle.bc_replay.proofs.lemmas.ActorLoopLemmas.{who-at}
+use Rattle.bc_replay.proofs.lemmas.ActorsAfterLemmas.{who-at}
 use Rattle.bc_replay.proofs.lemmas.ActorPlaceLemmas.{acting-at, acting-follower, acting-length, acting-port, acting-queries, follower-index, follower-many, port-index, queries-index}
 
 abbrev who_of : ActorState → Who

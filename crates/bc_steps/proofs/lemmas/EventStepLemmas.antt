@@ -1,5 +1,6 @@
 -- An event of an actor is its step of the World.
-use Rattle.std.proofs.Common.{◌≡◌, ◌≤◌, ℕ, Bool, true, false, cond, refl, sym, ap, subst, ◌∙◌, List, ◌∷◌, Option, Some, None, option_map, option_and_then, leb, leb-true, le-leb}
+use Rattle.std.proofs.Common.{◌≡◌, ◌≤◌, ℕ, Bool, true, false, cond, refl, sym, ap, subst, ◌∙◌, List, ◌∷◌, Option, Some, None, option_map, option_and_then, leb, leb-true, le-leb, arith}
+use Rattle.std.specs.Prelude.{IfSome}
 use Rattle.std.proofs.lemmas.Option.{same_Some}
 use Rattle.ptp_base.specs.declared.port_conf.PortConf.{PortConf}
 use Rattle.model_clock.specs.Clock.{clock_at}
@@ -27,9 +28,10 @@ use Rattle.bc_history.specs.Run.NextInputs.{next_input, record_or_timer, IsDue}
 use Rattle.bc_history.specs.Run.PortPlace.{place_by_entries}
 use Rattle.bc_history.specs.Run.World.{Event, is_inside, Place, World, port_event, port_reading, port_step, seen_at, step_from, step_of}
 use Rattle.bc_history.proofs.lemmas.PortEntriesLemmas.{port_of-by}
-use Rattle.hub_core.specs.HubView.{HubState, draft_entry, entry_by, reading_at, with_entry}
+use Rattle.hub_core.specs.HubView.{HubState, IsInWindow, draft_entry, entry_by, reading_at, with_entry}
 use Rattle.bc_steps.specs.PortActors.{IsPortActor, port_actor_view}
-use Rattle.bc_steps.specs.ActorView.{ActorState, AddsOwn, due_tick, IsIn, IsLevel}
+use Rattle.bc_windows.specs.Windows.{bound_of}
+use Rattle.bc_steps.specs.ActorView.{ActorState, AddsOwn, due_tick, IsIn, IsLevel, last_tick, up_to_bound}
 use Rattle.bc_steps.specs.RecordQueue.{input_at, last_of, tick_at}
 use Rattle.bc_steps.specs.declared.port.actor.PortActor.TheInside.{Inside}
 use Rattle.bc_steps.proofs.lemmas.PortEventLemmas.{IsNextEvent, has-input, next-event}
@@ -91,7 +93,7 @@ event-due i a hub queue timer input tick is view level continues queued told tak
     ∙ ap (λ (t : Option (ℕ × Timer)). input_at i.number i.place (last_of i.records.items) t) timers) ∙ takes in
     let ticks =
     sym (due-own i entries is same)
-    ∙ ap (λ (x : Scenario). due_tick (record { scenario = x; entries = hub.entries; logs = hub.logs }) (port_actor_view i)) level_of.scenario
+    ∙ ap (λ (x : Scenario). due_tick (record { scenario = x; entries = hub.entries; logs = hub.logs; windows = hub.windows }) (port_actor_view i)) level_of.scenario
     ∙ ap (λ (x : ActorState). due_tick hub x) view ∙ at in
     subst (λ (x : Scenario). IsDueEvent x i entries input tick) level_of.scenario
     (event-own i entries input tick is same (subst (λ (x : Scenario). Continues x entries) (sym level_of.scenario) continues) taken ticks)
@@ -189,9 +191,19 @@ event-adds who hub new input own made =
       more = ap (λ (h : HubState). h.entries) made;
       own = ap (λ (x : Input). is_same_actor who (actor_of x)) (entry-input hub.scenario hub.entries input (reading_at hub input)) ∙ own;
       scenario = ap (λ (h : HubState). h.scenario) made;
+      windows = ap (λ (h : HubState). h.windows) made;
     }
 
 -- ---- readiness
+
+-- what is up to the last tick is in the window
+in-bound : (bound : Option ℕ) (until tick : ℕ) → tick ≤ up_to_bound bound until → IfSome bound (λ end. tick ≤ end)
+in-bound None until tick le = tt
+in-bound (Some end) until tick le = omega (arith, le)
+
+-- and so is an input of that tick
+pub input-in : (hub : HubState) (until tick : ℕ) (input : Input) → tick ≤ last_tick hub until → tick_of input ≡ tick → IsInWindow hub input
+input-in hub until tick input le at = in-bound (bound_of hub.windows) until (tick_of input) (rw at le)
 
 -- a tick up to another
 pub ready-by : (until tick : ℕ) (o : Option ℕ) → o ≡ Some tick → tick ≤ until → holds (λ t. leb t until) o ≡ true
@@ -208,7 +220,7 @@ some-input i a hub queue timer tick is view level inside queued told at none =
     let found = λ (t : Option (ℕ × Timer)). tick_at i.number i.place (last_of i.records.items) t in
     let ticks =
     sym (due-own i hub.entries is level_of.entries)
-    ∙ ap (λ (x : Scenario). due_tick (record { scenario = x; entries = hub.entries; logs = hub.logs }) (port_actor_view i)) level_of.scenario
+    ∙ ap (λ (x : Scenario). due_tick (record { scenario = x; entries = hub.entries; logs = hub.logs; windows = hub.windows }) (port_actor_view i)) level_of.scenario
     ∙ ap (λ (x : ActorState). due_tick hub x) view ∙ at in
     let ends = by_end-some i.duration (found (timer_of i.scenario.value hub.entries i.number)) tick ticks in
     let no =

@@ -118,6 +118,15 @@ input-next s h c f (Samples tick lead theirs own action outcome) input there led
     subst (IsNext s h) (same_Some (Sampled c tick lead theirs own action outcome) input is)
     (and-some (λ (g : Follower). g.leading ≡ Some (record { tick = tick; lead = lead })) (slice_get h.followers c) f there led)
 
+-- it comes at the tick that was found, in the follower's own scenario
+turn-tick-own : (i : Inside) (input : Input) (tick : ℕ)
+    → follower_input i.clock (turn_after i.turns i.interval) i.place ≡ Some input
+    → by_end i.duration (Some (follower_tick (turn_after i.turns i.interval) i.place)) ≡ Some tick → tick_of input ≡ tick
+turn-tick-own i input tick takes at =
+    let of = input-of i.clock (turn_after i.turns i.interval) i.place input takes in
+    let ends = by_end-some i.duration (Some (follower_tick (turn_after i.turns i.interval) i.place)) tick at in
+    of.tick_is ∙ same_Some _ tick ends.0
+
 -- in the follower's own scenario
 turn-due-own : (i : Inside) (entries : List Entry) (input : Input) (tick : ℕ) → IsFollowerActor i → AreSameEntries i entries
     → Continues i.scenario.value entries → follower_input i.clock (turn_after i.turns i.interval) i.place ≡ Some input
@@ -131,11 +140,10 @@ turn-due-own i entries input tick is same continues takes at =
     ap (λ n. follower_input i.clock n i.place) turn ∙ takes in
     let of = input-of i.clock (turn_tick s own.follower) i.place input taken in
     let ends = by_end-some i.duration (Some (follower_tick (turn_after i.turns i.interval) i.place)) tick at in
-    let ticks = same_Some _ tick ends.0 in
     let led = leading-state_of s entries continues i.clock own.follower own.there in
     let due : tick_of input ≤ s.options.duration =
     subst (λ d. tick_of input ≤ d) is.duration_is
-    (subst (λ t. t ≤ i.duration) (sym (of.tick_is ∙ (ap (λ n. follower_tick n i.place) turn ∙ ticks))) ends.1) in
+    (subst (λ t. t ≤ i.duration) (sym (turn-tick-own i input tick takes at)) ends.1) in
     record {
       own = own;
       takes = taken;
@@ -156,6 +164,15 @@ turn-due i a hub input tick is view level continues takes at =
     subst (λ (s : Scenario). IsDueTurn s i hub.entries input) level_of.scenario
     (turn-due-own i hub.entries input tick is level_of.entries
     (subst (λ (s : Scenario). Continues s hub.entries) (sym level_of.scenario) continues) takes ticks)
+
+-- what was found comes at the tick that was found
+pub turn-tick : (i : Inside) (a : ActorState) (hub : HubState) (input : Input) (tick : ℕ) → IsFollowerActor i → follower_actor_view i ≡ a
+    → IsLevel hub a → follower_input i.clock (turn_after i.turns i.interval) i.place ≡ Some input → due_tick hub a ≡ Some tick
+    → tick_of input ≡ tick
+turn-tick i a hub input tick is view level takes at =
+    let level_of : IsLevel hub (follower_actor_view i) = subst (IsLevel hub) (sym view) level in
+    let ticks = due-beside i hub is level_of ∙ (ap (λ (x : ActorState). due_tick hub x) view ∙ at) in
+    turn-tick-own i input tick takes ticks
 
 -- as the hub wants it
 pub turn-is_due : (s : Scenario) (i : Inside) (entries : List Entry) (input : Input) → IsDueTurn s i entries input

@@ -15,6 +15,7 @@ use Rattle.bc_history.specs.Phases.State.{State}
 use Rattle.bc_history.specs.Phases.Step.{state_of}
 use Rattle.bc_history.specs.Run.Actors.{actor_of, is_same_actor}
 use Rattle.bc_history.specs.Run.NextInputs.{IsDue, query_input}
+use Rattle.bc_history.specs.Phases.Inputs.{tick_of}
 use Rattle.bc_history.specs.Run.World.{Event, Of_queries, Place, World, due_by_end, query_step, step_of, with_entry as with_world_entry, with_place}
 use Rattle.hub_core.specs.HubView.{HubState, entry_by, reading_at, with_entry}
 use Rattle.bc_steps.specs.ActorView.{ActorState, IsLevel, due_tick, world_with}
@@ -50,6 +51,10 @@ pub record IsNextQuery (s : Scenario) (h : State) (input : Input) (tick : ℕ) :
   pub input_is : input ≡ asked_input asked
   pub tick_is : asked.tick ≡ tick
   pub in_time : tick ≤ s.options.duration
+
+-- it comes at that tick
+pub query-tick : {s : Scenario} {h : State} {input : Input} {tick : ℕ} → IsNextQuery s h input tick → tick_of input ≡ tick
+query-tick is = ap tick_of is.input_is ∙ is.tick_is
 
 next-found : (s : Scenario) (h : State) (found : Option Asked) (input : Input) (tick : ℕ) → query_input s h ≡ found → option_map asked_input found ≡ Some input
     → by_end s.options.duration (option_map (λ (x : Asked). x.tick) found) ≡ Some tick → IsNextQuery s h input tick

@@ -6,13 +6,13 @@ ghost use Rattle.bc_history.specs.Run.Actors.{actor_of, is_same_actor};
 ghost use Rattle.bc_history.specs.Run.FollowerPlace.{follower_place_by_entries};
 ghost use Rattle.bc_history.specs.Run.NextInputs.{IsDue};
 ghost use Rattle.bc_history.specs.Run.World.{World, Event, Of_follower, is_inside, step_of};
-ghost use Rattle.hub_core.specs.HubView.{entry_by, reading_at, with_entry};
+ghost use Rattle.hub_core.specs.HubView.{IsInWindow, entry_by, reading_at, with_entry};
 ghost use Rattle.bc_steps.specs.ActorView.{is_ready, world_with, AddsOwn, IsIn, IsLevel, IsSameActor};
 ghost use Rattle.bc_steps.specs.FollowerJob.{IsInputAt};
 
 use crate::follower::actor::FollowerActor;
 use crate::follower::place::{input_at, place_told, turn_after, turns_served};
-use crate::ticks::tick_of;
+use crate::ticks::{last_tick, tick_of};
 use bc_history::Input;
 use hub_core::{Hub, HubError};
 use ptp_base::ENTRIES_MAX;
@@ -24,6 +24,7 @@ impl FollowerActor {
         requires level { IsLevel hub.old self.old }
         requires due { IsDue hub.old.scenario
             (state_of hub.old.scenario hub.old.entries) input }
+        requires within { IsInWindow hub.old input }
         requires own { is_same_actor self.old.who (actor_of input) ≡ true }
         requires next { IsInputAt self.old.place input }
         requires few { length hub.old.entries < ENTRIES_MAX }
@@ -46,7 +47,7 @@ impl FollowerActor {
     }
 
     /// Its next step, an event of the hub. Ok(false) exactly where it has none up to `until`, in ns of
-    /// the scenario, and up to the end of the run. Events exactly where it has one, and the hub has
+    /// the scenario, in the hub's window, and up to the end of the run. Events exactly where it has one, and the hub has
     /// `ENTRIES_MAX` entries. A refusal leaves hub and follower as they were.
     pub fn event(&mut self, hub: &mut Hub, until: u64) -> Result<bool, HubError>
         requires level { IsLevel hub.old self.old }
@@ -64,7 +65,7 @@ impl FollowerActor {
     {
         hub.rules();
         match self.due() {
-            Some(tick) if tick <= until => {}
+            Some(tick) if tick <= last_tick(hub, until) => {}
             _ => return Ok(false),
         }
         if hub.entries().len() >= ENTRIES_MAX as usize {

@@ -6,14 +6,14 @@ ghost use Rattle.bc_history.specs.Run.NextInputs.{IsDue};
 ghost use Rattle.bc_history.specs.Run.PortPlace.{place_by_entries};
 ghost use Rattle.bc_history.specs.Phases.Step.{state_of};
 ghost use Rattle.bc_history.specs.Run.World.{World, Event, Free, Of_port, free_steps, is_inside, step_of};
-ghost use Rattle.hub_core.specs.HubView.{entry_by, newest_seen, reading_at, with_entry};
+ghost use Rattle.hub_core.specs.HubView.{IsInWindow, entry_by, newest_seen, reading_at, with_entry};
 ghost use Rattle.bc_steps.specs.ActorView.{is_ready, world_with, AddsOwn, IsIn, IsLevel, IsSameActor, IsSameHistory};
 
 use crate::exchange::exchange;
 use crate::port::actor::PortActor;
 use crate::port::job::take_measure;
 use crate::port::queue::{input_at, is_record_of, take_next};
-use crate::ticks::tick_of;
+use crate::ticks::{last_tick, tick_of};
 use bc_history::{Input, PortPlace, Seen};
 use hub_core::{Hub, HubError};
 use ptp_base::{ENTRIES_MAX, NoMemory};
@@ -36,6 +36,7 @@ impl PortActor {
         requires level { IsLevel hub.old self.old }
         requires due { IsDue hub.old.scenario
             (state_of hub.old.scenario hub.old.entries) input }
+        requires within { IsInWindow hub.old input }
         requires own { is_same_actor self.old.who (actor_of input) ≡ true }
         requires few { length hub.old.entries < ENTRIES_MAX }
         ensures entry { OnOk result (hub.new
@@ -59,7 +60,7 @@ impl PortActor {
     }
 
     /// Its next step, an event of the hub. Ok(false) exactly where it has none up to `until`, in ns of
-    /// the scenario, and up to the end of the run. Events exactly where it has one, and the hub has
+    /// the scenario, in the hub's window, and up to the end of the run. Events exactly where it has one, and the hub has
     /// `ENTRIES_MAX` entries. A refusal leaves hub and actor as they were.
     pub fn event(&mut self, hub: &mut Hub, until: u64) -> Result<bool, HubError>
         requires level { IsLevel hub.old self.old }
@@ -77,7 +78,7 @@ impl PortActor {
     {
         hub.rules();
         match self.due(hub) {
-            Some(tick) if tick <= until => {}
+            Some(tick) if tick <= last_tick(hub, until) => {}
             _ => return Ok(false),
         }
         if hub.entries().len() >= ENTRIES_MAX as usize {

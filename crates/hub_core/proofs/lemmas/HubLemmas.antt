@@ -40,6 +40,8 @@ use Rattle.bc_ports.proofs.lemmas.RepresentationLemmas.{PortsRepresent-some}
 use Rattle.discipline_seat.specs.SeatsView.{Seats, with_entry as with_change_entry}
 use Rattle.bc_roles.specs.RolesView.{RolesRepresent, RolesView}
 use Rattle.hub_core.specs.HubView.{HubState, HubYields, IsHub, IsMeasuredTime, entry_by, history_of, newest_seen, reading_at, with_entry}
+use Rattle.bc_windows.specs.Windows.{IsInBound, IsMadeBy, Window}
+use Rattle.hub_core.specs.GivenWindows.{windows_of}
 use Rattle.hub_core.specs.FollowerInputs.{IsServed}
 use Rattle.hub_core.specs.HubParts.{PartsYield, PartsRepresent}
 use Rattle.hub_core.specs.PortReading.{input_seen}
@@ -49,9 +51,9 @@ use Rattle.hub_core.proofs.lemmas.PortEntryLemmas.{due-port, history-again, plac
 
 -- ---- before the first entry
 
-pub hub-opened : (i : Inside) → i.entries ≡ [] → IsScenario i.scenario.value → PartsRepresent i.scenario.value i.machine (opening i.scenario.value) → i.machine.roles.generation.gener ≡ 0 → i.asked ≡ 0 → i.sequence ≡ 0 → IsHub i
+pub hub-opened : (i : Inside) → i.entries ≡ [] → IsScenario i.scenario.value → PartsRepresent i.scenario.value i.machine (opening i.scenario.value) → i.machine.roles.generation.gener ≡ 0 → i.asked ≡ 0 → i.sequence ≡ 0 → windows_of i.windows ≡ [] → IsHub i
 unfolding state_of
-hub-opened i none rules machine gener asked sequence =
+hub-opened i none rules machine gener asked sequence given =
     let s = i.scenario.value in
     let H : List Entry → Type 0 = λ es. IsHistory s es in
     let M : List Entry → Type 0 = λ es. PartsRepresent s i.machine (state_of s es) in
@@ -62,6 +64,7 @@ hub-opened i none rules machine gener asked sequence =
       rules = rules;
       history = subst H empty (record { few = omega arith; continues = tt });
       times = subst (λ (es : List Entry). All IsReadTime es) empty (All-nil IsReadTime);
+      windows = subst (λ (ws : List Window). IsMadeBy s ws (history_of i)) (sym given) tt;
       machine = subst M empty machine;
       gener = omega (arith, gener);
       few_asked = omega (arith, asked);
@@ -103,9 +106,9 @@ pub logs-roomier : (old new : RolesView) → IsRoomier old new → new.seats.log
 logs-roomier old new more = ap (λ (r : RolesView). r.seats.logs) more.same
 
 -- the same history with another machine that stands for it
-pub hub-same : (i j : Inside) → IsHub i → j.scenario.value ≡ i.scenario.value → j.entries ≡ i.entries → j.asked ≡ i.asked → j.sequence ≡ i.sequence
+pub hub-same : (i j : Inside) → IsHub i → j.scenario.value ≡ i.scenario.value → j.entries ≡ i.entries → j.asked ≡ i.asked → j.sequence ≡ i.sequence → j.windows ≡ i.windows
     → PartsRepresent i.scenario.value j.machine (state_of i.scenario.value (history_of i)) → j.machine.roles.generation.gener ≡ i.machine.roles.generation.gener → IsHub j
-hub-same i j was scenario entries asked sequence machine gener =
+hub-same i j was scenario entries asked sequence windows machine gener =
     let history : history_of i ≡ history_of j = ap (λ (es : List Entry). reverse es) (sym entries) in
     let long = ap (λ (es : List Entry). length es) entries in
     let S : Scenario → Type 0 = λ s. IsScenario s in
@@ -121,6 +124,7 @@ hub-same i j was scenario entries asked sequence machine gener =
       rules = subst S (sym scenario) was.rules;
       history = subst H' history (subst H (sym scenario) was.history);
       times = subst (λ (es : List Entry). All IsReadTime es) history was.times;
+      windows = rw (scenario, windows) (subst (λ (es : List Entry). IsMadeBy i.scenario.value (windows_of i.windows) es) history was.windows);
       machine = subst M' history (subst M (sym scenario) machine);
       gener = omega (arith, was.gener, gener, long);
       few_asked = omega (arith, was.few_asked, asked, long);
@@ -137,6 +141,23 @@ held-time z = grind (arith, ints)
 seen-after : (s : Scenario) (before : List Entry) (input : Input) (seen : Option Seen) → (entry_after s before input seen).seen ≡ seen
 unfolding entry_after
 seen-after s before input seen = refl
+
+input-after : (s : Scenario) (before : List Entry) (input : Input) (seen : Option Seen) → (entry_after s before input seen).input ≡ input
+unfolding entry_after
+input-after s before input seen = refl
+
+-- a history made by windows may have an entry more within the present one
+made-more : (s : Scenario) (windows : List Window) (entries : List Entry) (e : Entry) → IsInBound windows (tick_of e.input) → IsMadeBy s windows entries → IsMadeBy s windows (e ∷ entries)
+made-more s [] entries e within was = tt
+made-more s (w ∷ former) entries e within (made, begins, before) = (
+  record {
+    more = e ∷ made.more;
+    history = ap (λ (es : List Entry). e ∷ es) made.history;
+    within = All-cons (λ (x : Entry). tick_of x.input ≤ w.end) e made.more within made.within;
+  },
+  begins,
+  before,
+)
 
 follows-after : (s : Scenario) (before : List Entry) (input : Input) (seen : Option Seen) → IsDue s (state_of s before) input → is_some seen ≡ is_read input → Follows s before (entry_after s before input seen)
 unfolding entry_after
@@ -253,13 +274,14 @@ pub record HasTakenOne (i j : Inside) (input : Input) (logs : List (List LogEntr
   pub gener : j.machine.roles.generation.gener ≤ i.machine.roles.generation.gener + 1
   pub logs_before : logs ≡ i.machine.roles.seats.logs
   pub logs_after : j.machine.roles.seats.logs ≡ with_orders logs entry.effects.orders
+  pub windows : j.windows ≡ i.windows
 
 history-one : (i j : Inside) (input : Input) (logs : List (List LogEntry)) (entry : Entry) → HasTakenOne i j input logs entry → history_of j ≡ entry ∷ history_of i
 history-one i j input logs entry is = ap (λ (es : List Entry). reverse es) is.entries ∙ reverse_push i.entries entry
 
 pub hub-next : (i j : Inside) (input : Input) (logs : List (List LogEntry)) (entry : Entry) → IsHub i → length i.entries < ENTRIES_MAX
-    → IsDue i.scenario.value (state_of i.scenario.value (history_of i)) input → HasTakenOne i j input logs entry → IsHub j
-hub-next i j input logs entry was few due is =
+    → IsDue i.scenario.value (state_of i.scenario.value (history_of i)) input → IsInBound (windows_of i.windows) (tick_of input) → HasTakenOne i j input logs entry → IsHub j
+hub-next i j input logs entry was few due within is =
     let s = i.scenario.value in
     let before = history_of i in
     let h = state_of s before in
@@ -274,10 +296,12 @@ hub-next i j input logs entry was few due is =
     let asked = ap (λ (e : Entry). (state_of s (e ∷ before)).queries) is.served.entry_is ∙ queries-next s before input reading in
     let sequence = ap (λ (e : Entry). (state_of s (e ∷ before)).requests % 65536) is.served.entry_is ∙ ap (λ (n : ℕ). n % 65536) (requests-next s before input reading) in
     let one = queries-few input i.asked in
+    let tick : tick_of entry.input ≡ tick_of input = ap (λ (e : Entry). tick_of e.input) is.served.entry_is ∙ ap tick_of (input-after s before input reading) in
     record {
       rules = subst (λ (x : Scenario). IsScenario x) (sym is.scenario) was.rules;
       history = move (λ x es. IsHistory x es) (record { few = omega (arith, few, long); continues = (follows, was.history.continues) });
       times = move (λ x es. All IsReadTime es) (All-cons IsReadTime entry before (entry-time s before logs input entry is.served.entry_is) was.times);
+      windows = rw is.windows (move (λ x es. IsMadeBy x (windows_of i.windows) es) (made-more s (windows_of i.windows) before entry (rw tick within) was.windows));
       machine = move (λ x es. PartsRepresent x j.machine (state_of x es)) is.served.machine;
       gener = omega (arith, is.gener, was.gener, more);
       few_asked = omega (arith, is.asked, one, was.few_asked, more);
@@ -304,11 +328,11 @@ measured-time i j input logs entry is now =
 -- ---- what contracts see of it
 
 abbrev pub seen_of : Inside → HubState
-seen_of i = record { scenario = i.scenario.value; entries = history_of i; logs = i.machine.roles.seats.logs }
+seen_of i = record { scenario = i.scenario.value; entries = history_of i; logs = i.machine.roles.seats.logs; windows = windows_of i.windows }
 
-same-hub : (s s' : Scenario) (es es' : List Entry) (ls ls' : List (List LogEntry)) → s ≡ s' → es ≡ es' → ls ≡ ls'
-    → (let a : HubState = record { scenario = s; entries = es; logs = ls } in a) ≡ (let b : HubState = record { scenario = s'; entries = es'; logs = ls' } in b)
-same-hub s s' es es' ls ls' a b d = rw (a, b, d) refl
+same-hub : (s s' : Scenario) (es es' : List Entry) (ls ls' : List (List LogEntry)) (ws ws' : List Window) → s ≡ s' → es ≡ es' → ls ≡ ls' → ws ≡ ws'
+    → (let a : HubState = record { scenario = s; entries = es; logs = ls; windows = ws } in a) ≡ (let b : HubState = record { scenario = s'; entries = es'; logs = ls'; windows = ws' } in b)
+same-hub s s' es es' ls ls' ws ws' a b d e = rw (a, b, d, e) refl
 
 newest-one : (i j : Inside) (input : Input) (logs : List (List LogEntry)) (entry : Entry) → HasTakenOne i j input logs entry → newest_seen (history_of j) ≡ input_seen i.scenario.value logs input
 newest-one i j input logs entry is =
@@ -333,7 +357,7 @@ hub-taken i j input logs entry is =
     let by = entry-taken i j input logs entry is in
     let history = history-one i j input logs entry is ∙ ap (λ (e : Entry). e ∷ history_of i) by in
     let logs_are = is.logs_after ∙ (ap (λ (ls : List (List LogEntry)). with_orders ls entry.effects.orders) is.logs_before ∙ ap (λ (e : Entry). with_orders i.machine.roles.seats.logs e.effects.orders) by) in
-    same-hub _ _ _ _ _ _ is.scenario history logs_are
+    same-hub _ _ _ _ _ _ _ _ is.scenario history logs_are (ap windows_of is.windows)
 
 -- what the event made of the hub, by what contracts see of it before and after
 pub hub-yields : (i j : Inside) (input : Input) (logs : List (List LogEntry)) (entry : Entry) (old : HubState) (effects : Effects) → HasTakenOne i j input logs entry → IsHub j → seen_of i ≡ old → effects ≡ entry.effects

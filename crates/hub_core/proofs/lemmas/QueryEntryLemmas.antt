@@ -92,6 +92,7 @@ query-yields s entries logs tick text m core moment asked answers was is sound p
 -- what a hub replied to a query, and what it is after it
 pub record HasReplied (i j : Inside) (tick : ℕ) (text : List ℕ) (reply : Reply) (at : ℕ) : Type 0 where
   pub scenario : j.scenario.value ≡ i.scenario.value
+  pub windows : j.windows ≡ i.windows
   pub machine : j.machine ≡ with_core i.machine j.machine.core
   pub moment : at ≡ max i.machine.core.moment tick
   pub refused : reply.asked ≡ refusal_of (asked_by text)
@@ -121,6 +122,7 @@ query-taken i j tick text reply at was is =
     let gener = ap (λ (m : HubParts). m.roles.generation.gener) is.machine in
     record {
       scenario = is.scenario;
+      windows = is.windows;
       served = subst (λ (m : HubParts). PartsYield s before i.machine.roles.seats.logs (Query tick text) m entry) (sym is.machine) yields;
       entries = is.entries;
       asked = is.counted;

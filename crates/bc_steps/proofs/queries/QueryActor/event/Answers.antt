@@ -3,8 +3,8 @@ use Rattle.bc_history.specs.declared.entry.Who.{Who}
 use Rattle.bc_history.specs.Phases.Step.{state_of}
 use Rattle.bc_history.specs.Run.Actors.{actor_of, is_same_actor}
 use Rattle.bc_history.specs.Run.World.{Event, World, step_of}
-use Rattle.bc_steps.proofs.lemmas.EventStepLemmas.{event-adds}
-use Rattle.bc_steps.proofs.lemmas.QueryActorLemmas.{next-query, query-is_due, query-own, query-step, some-query, world-queried}
+use Rattle.bc_steps.proofs.lemmas.EventStepLemmas.{event-adds, input-in}
+use Rattle.bc_steps.proofs.lemmas.QueryActorLemmas.{next-query, query-is_due, query-own, query-step, query-tick, some-query, world-queried}
 use Rattle.bc_steps.proofs.queries.QueryActor.event.Goals as goal
 
 pub returns-in_default-2-clause-waits : goal.returns-in_default-2-clause-waits
@@ -19,6 +19,12 @@ serve-requires-clause-due c =
     let next = next-query c.args.self.now c.args.hub.now c.in-Some-2.input c.in-Some.tick c.kind.ensures.who c.kind.ensures.at (sym c.due.ensures.tick ∙ c.in-Some.is)
     (sym c.in_ok-input.ensures.next ∙ c.in-Some-2.is) in
     query-is_due c.args.hub.now.scenario (state_of c.args.hub.now.scenario c.args.hub.now.entries) c.in-Some-2.input c.in-Some.tick next
+
+pub serve-requires-clause-within : goal.serve-requires-clause-within
+serve-requires-clause-within c =
+    let next = next-query c.args.self.now c.args.hub.now c.in-Some-2.input c.in-Some.tick c.kind.ensures.who c.kind.ensures.at (sym c.due.ensures.tick ∙ c.in-Some.is)
+    (sym c.in_ok-input.ensures.next ∙ c.in-Some-2.is) in
+    input-in c.args.hub.now c.args.until c.in-Some.tick c.in-Some-2.input (rw (sym c.last_tick.ensures) c.if-tick-last_tick.true) (query-tick next)
 
 pub serve-requires-clause-own : goal.serve-requires-clause-own
 serve-requires-clause-own c =

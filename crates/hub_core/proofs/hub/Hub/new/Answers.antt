@@ -10,4 +10,4 @@ pub invariant_of-result : goal.invariant_of-result
 invariant_of-result c =
     let S : Scenario → Type 0 = λ s. IsScenario s in
     let M : Scenario → Type 0 = λ s. PartsRepresent s c.in_ok-new.field-0 (opening s) in
-    hub-opened _ c.new-2.ensures (subst S (sym c.of.ensures) c.rules.ensures) (subst M (sym c.of.ensures) c.in_ok-new.ensures.machine) c.in_ok-new.ensures.gener refl refl
+    hub-opened _ c.new-2.ensures (subst S (sym c.of.ensures) c.rules.ensures) (subst M (sym c.of.ensures) c.in_ok-new.ensures.machine) c.in_ok-new.ensures.gener refl refl c.none.ensures

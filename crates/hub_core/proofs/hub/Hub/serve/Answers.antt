@@ -5,7 +5,7 @@ use Rattle.ptp_base.specs.declared.limits.TheConstants.{ENTRIES_MAX}
 use Rattle.bc_history.specs.declared.entry.Entry.{Entry}
 use Rattle.bc_history.specs.Run.NextInputs.{IsDue}
 use Rattle.bc_history.specs.Phases.Step.{state_of}
-use Rattle.hub_core.specs.HubView.{HubState, history_of}
+use Rattle.hub_core.specs.HubView.{HubState, IsInWindow, history_of}
 use Rattle.hub_core.specs.declared.hub.Hub.TheInside.{Inside}
 use Rattle.hub_core.proofs.lemmas.HubLemmas.{HasTakenOne, IsRoomier, drafted, gener-roomier, hub-next, hub-same, hub-yields, logs-roomier, machine-roomier, queries-served, requests-served}
 use Rattle.hub_core.proofs.hub.Hub.serve.Goals as goal
@@ -14,7 +14,7 @@ pub invariant_of-self-in_err-push : goal.invariant_of-self-in_err-push
 invariant_of-self-in_err-push c =
     let i : Inside = c.self.inside in
     let more : IsRoomier i.machine.roles c.reserve.new.self = record { spare = c.reserve.new.self.seats.spare; same = c.reserve.ensures.same } in
-    hub-same i _ c.self.invariant refl c.in_err-push.ensures.err refl refl
+    hub-same i _ c.self.invariant refl c.in_err-push.ensures.err refl refl refl
     (machine-roomier i.scenario.value i.machine _ c.reserve.new.self c.self.invariant.machine more) (gener-roomier i.machine.roles c.reserve.new.self more)
 
 pub take-entry-requires-clause-at : goal.take-entry-requires-clause-at
@@ -37,7 +37,7 @@ take-entry-requires-clause-at c =
 
 -- the hub after the event
 abbrev after : goal.After-set → Inside
-after c = record { alloc = c.self.inside.alloc; scenario = c.self.inside.scenario; machine = c.take-entry.new.self; entries = c.set.new.self; asked = c.self.inside.asked; sequence = c.self.inside.sequence }
+after c = record { alloc = c.self.inside.alloc; scenario = c.self.inside.scenario; machine = c.take-entry.new.self; entries = c.set.new.self; asked = c.self.inside.asked; sequence = c.self.inside.sequence; windows = c.self.inside.windows }
 
 taken : (c : goal.After-set) → HasTakenOne c.self.inside (after c) c.args.input c.reserve.new.self.seats.logs c.take-entry.result
 taken c =
@@ -61,6 +61,7 @@ taken c =
       gener = omega (arith, c.take-entry.ensures.gener, gener);
       logs_before = logs-roomier i.machine.roles c.reserve.new.self more;
       logs_after = c.take-entry.ensures.logs;
+      windows = refl;
     }
 
 pub invariant_of-self-2 : goal.invariant_of-self-2
@@ -69,7 +70,8 @@ invariant_of-self-2 c =
     let long = length-reverse i.entries in
     let few = subst (λ (h : HubState). length h.entries < ENTRIES_MAX) (sym c.self.view_is) c.requires.few in
     hub-next i (after c) c.args.input c.reserve.new.self.seats.logs c.take-entry.result c.self.invariant (omega (arith, long, few))
-    (subst (λ (h : HubState). IsDue h.scenario (state_of h.scenario h.entries) c.args.input) (sym c.self.view_is) c.requires.due) (taken c)
+    (subst (λ (h : HubState). IsDue h.scenario (state_of h.scenario h.entries) c.args.input) (sym c.self.view_is) c.requires.due)
+    (subst (λ (h : HubState). IsInWindow h c.args.input) (sym c.self.view_is) c.requires.within) (taken c)
 
 pub returns-clause-yields : goal.returns-clause-yields
 returns-clause-yields c =

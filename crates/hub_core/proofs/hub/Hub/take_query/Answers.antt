@@ -10,7 +10,7 @@ use Rattle.bc_history.specs.Run.NextInputs.{IsDue}
 use Rattle.bc_ports.specs.declared.boundary_clock.BoundaryClock.{BoundaryClock}
 use Rattle.pmc_query.specs.AnsweredSets.{answering}
 use Rattle.hub_core.specs.EffectParts.{portless_effects}
-use Rattle.hub_core.specs.HubView.{HubState}
+use Rattle.hub_core.specs.HubView.{HubState, IsInWindow}
 use Rattle.hub_core.specs.declared.hub.Hub.TheInside.{Inside}
 use Rattle.hub_core.specs.declared.reply.Reply.{Reply}
 use Rattle.hub_core.proofs.lemmas.HubLemmas.{hub-next, hub-yields}
@@ -27,11 +27,13 @@ invariant_of-self-2 c =
       entries = c.push.new.self;
       asked = i.asked + 1;
       sequence = c.next_sequence-sequence.result;
+      windows = i.windows;
     } in
     let reply = c.in_ok-reply.reply in
     let text : c.items.result.now ≡ c.args.text = c.items.ensures in
     let replied : HasReplied i j c.args.tick c.args.text reply c.max-moment.result = record {
       scenario = refl;
+      windows = refl;
       machine = refl;
       moment = c.max-moment.ensures;
       refused = c.in_ok-reply.ensures.asked ∙ ap (λ (x : List ℕ). refusal_of (asked_by x)) text;
@@ -47,7 +49,8 @@ invariant_of-self-2 c =
     let long = length-reverse i.entries in
     let few = subst (λ (h : HubState). length h.entries < ENTRIES_MAX) (sym c.self.view_is) c.requires.few in
     let due = subst (λ (h : HubState). IsDue h.scenario (state_of h.scenario h.entries) (Query c.args.tick c.args.text)) (sym c.self.view_is) c.requires.due in
-    let next = hub-next i j (Query c.args.tick c.args.text) i.machine.roles.seats.logs _ c.self.invariant (omega (arith, long, few)) due taken in
+    let within = subst (λ (h : HubState). IsInWindow h (Query c.args.tick c.args.text)) (sym c.self.view_is) c.requires.within in
+    let next = hub-next i j (Query c.args.tick c.args.text) i.machine.roles.seats.logs _ c.self.invariant (omega (arith, long, few)) due within taken in
     next
 
 pub returns-clause-yields : goal.returns-clause-yields
@@ -60,11 +63,13 @@ returns-clause-yields c =
       entries = c.push.new.self;
       asked = i.asked + 1;
       sequence = c.next_sequence-sequence.result;
+      windows = i.windows;
     } in
     let reply = c.in_ok-reply.reply in
     let text : c.items.result.now ≡ c.args.text = c.items.ensures in
     let replied : HasReplied i j c.args.tick c.args.text reply c.max-moment.result = record {
       scenario = refl;
+      windows = refl;
       machine = refl;
       moment = c.max-moment.ensures;
       refused = c.in_ok-reply.ensures.asked ∙ ap (λ (x : List ℕ). refusal_of (asked_by x)) text;
@@ -80,6 +85,7 @@ returns-clause-yields c =
     let long = length-reverse i.entries in
     let few = subst (λ (h : HubState). length h.entries < ENTRIES_MAX) (sym c.self.view_is) c.requires.few in
     let due = subst (λ (h : HubState). IsDue h.scenario (state_of h.scenario h.entries) (Query c.args.tick c.args.text)) (sym c.self.view_is) c.requires.due in
-    let next = hub-next i j (Query c.args.tick c.args.text) i.machine.roles.seats.logs _ c.self.invariant (omega (arith, long, few)) due taken in
+    let within = subst (λ (h : HubState). IsInWindow h (Query c.args.tick c.args.text)) (sym c.self.view_is) c.requires.within in
+    let next = hub-next i j (Query c.args.tick c.args.text) i.machine.roles.seats.logs _ c.self.invariant (omega (arith, long, few)) due within taken in
     hub-yields i j (Query c.args.tick c.args.text) i.machine.roles.seats.logs _ _ _ taken next c.self.view_is
     (c.query_effects.ensures ∙ ap (λ (x : Reply). portless_effects None x.asked x.answers) c.in_ok-told.ensures)

@@ -7,8 +7,8 @@ use Rattle.bc_steps.specs.ActorView.{ActorState, IsIn}
 use Rattle.bc_steps.specs.FollowerActors.{follower_actor_view}
 use Rattle.bc_steps.specs.FollowerJob.{follower_input}
 use Rattle.bc_steps.specs.declared.follower.actor.FollowerActor.TheInside.{Inside}
-use Rattle.bc_steps.proofs.lemmas.EventStepLemmas.{event-adds}
-use Rattle.bc_steps.proofs.lemmas.FollowerStepLemmas.{turn-due, turn-is_due, turn-step}
+use Rattle.bc_steps.proofs.lemmas.EventStepLemmas.{event-adds, input-in}
+use Rattle.bc_steps.proofs.lemmas.FollowerStepLemmas.{turn-due, turn-is_due, turn-step, turn-tick}
 use Rattle.bc_steps.proofs.lemmas.OwnFollowerLemmas.{turns-within}
 use Rattle.bc_steps.proofs.follower.actor.FollowerActor.event.Goals as goal
 
@@ -24,6 +24,15 @@ serve-requires-clause-due c =
     (ap (λ n. follower_input i.clock n i.place) (sym c.turn_after-turn.ensures) ∙ (sym c.input_at.ensures ∙ c.in-Some-input_at.is))
     (sym (c.due.ensures.tick hub c.requires.level) ∙ c.in-Some.is) in
     turn-is_due hub.scenario i hub.entries c.in-Some-input_at.input due
+
+pub serve-requires-clause-within : goal.serve-requires-clause-within
+serve-requires-clause-within c =
+    let i : Inside = c.self.inside in
+    let hub = c.args.hub.now in
+    let at = turn-tick i c.args.self.now hub c.in-Some-input_at.input c.in-Some.tick c.self.invariant c.self.view_is c.requires.level
+    (ap (λ n. follower_input i.clock n i.place) (sym c.turn_after-turn.ensures) ∙ (sym c.input_at.ensures ∙ c.in-Some-input_at.is))
+    (sym (c.due.ensures.tick hub c.requires.level) ∙ c.in-Some.is) in
+    input-in hub c.args.until c.in-Some.tick c.in-Some-input_at.input (rw (sym c.last_tick.ensures) c.if-tick-last_tick.true) at
 
 pub returns-clause-step : goal.returns-clause-step
 returns-clause-step c = λ w done in_world.

@@ -123,7 +123,11 @@ returns-in_ok-exchange-in-Exchanges-clause-hub c =
     let changed = c.in_ok-exchange-in-Exchanges.ensures.hub i.clock (sym who) in
     let outcome = outcome_at hub (held_by i.clock lead) t c.in-Exchanges.action in
     let place = Samples t lead c.in-Exchanges.theirs c.in-Exchanges.own c.in-Exchanges.action outcome in
-    record { scenario = ap (λ (h : HubState). h.scenario) changed; entries = ap (λ (h : HubState). h.entries) changed }
+    record {
+      scenario = ap (λ (h : HubState). h.scenario) changed;
+      entries = ap (λ (h : HubState). h.entries) changed;
+      windows = ap (λ (h : HubState). h.windows) changed;
+    }
 
 pub returns-in_ok-exchange-in-Exchanges-clause-fewer : goal.returns-in_ok-exchange-in-Exchanges-clause-fewer
 returns-in_ok-exchange-in-Exchanges-clause-fewer c =

@@ -5,9 +5,9 @@ use Rattle.bc_history.specs.declared.entry.Who.{Who}
 use Rattle.bc_history.specs.declared.entry.Who.TheVariants.{Port}
 use Rattle.bc_history.specs.Run.Actors.{actor_of, is_same_actor}
 use Rattle.bc_history.specs.Run.World.{Event, Place, step_of, with_place}
-use Rattle.bc_steps.specs.ActorView.{ActorState, IsIn, due_tick}
+use Rattle.bc_steps.specs.ActorView.{ActorState, IsIn, due_tick, last_tick}
 use Rattle.bc_steps.specs.PortActors.{port_actor_view}
-use Rattle.bc_steps.proofs.lemmas.EventStepLemmas.{IsDueEvent, event-adds, event-due, event-is_due, event-step, ready-by, some-input}
+use Rattle.bc_steps.proofs.lemmas.EventStepLemmas.{IsDueEvent, event-adds, event-due, event-is_due, event-step, input-in, ready-by, some-input}
 use Rattle.bc_steps.proofs.port.actor.PortActor.event.Goals as goal
 
 -- the event that was found is due
@@ -30,10 +30,14 @@ pub serve-requires-clause-due : goal.serve-requires-clause-due
 serve-requires-clause-due c =
     event-is_due c.args.hub.now.scenario c.self.inside c.args.hub.now.entries c.in-Some-2.input c.in-Some.tick (due c)
 
+pub serve-requires-clause-within : goal.serve-requires-clause-within
+serve-requires-clause-within c =
+    input-in c.args.hub.now c.args.until c.in-Some.tick c.in-Some-2.input (rw (sym c.last_tick.ensures) c.if-tick-last_tick.true) (due c).event.tick_is
+
 pub returns-then-len-clause-events : goal.returns-then-len-clause-events
 returns-then-len-clause-events c =
-    let ready = ready-by c.args.until c.in-Some.tick (due_tick c.args.hub.now c.args.self.now) (sym c.due.ensures.tick ∙ c.in-Some.is)
-    c.if-tick-until.true in
+    let ready = ready-by (last_tick c.args.hub.now c.args.until) c.in-Some.tick (due_tick c.args.hub.now c.args.self.now) (sym c.due.ensures.tick ∙ c.in-Some.is)
+    (rw (sym c.last_tick.ensures) c.if-tick-last_tick.true) in
     let long = c.len.ensures ∙ ap (λ (es : List Entry). length es) c.entries.ensures ∙ length-reverse c.args.hub.now.entries in
     ((λ _. (ready, omega (arith, long, c.if-len.true, c.rules.ensures.history.few))), (λ _. refl))
 
