@@ -1,0 +1,4 @@
+pub mod WindowNumberLemmas
+pub mod ActingLemmas
+pub mod RoundLemmas
+pub mod CrossingLemmas

@@ -1,0 +1,4 @@
+pub mod RunErrors
+pub mod OptionWindows
+pub mod ActingState
+pub mod LeastDue
