@@ -1,7 +1,9 @@
-//! Reads a scenario from standard input and writes the transcript of its run to standard output.
+//! Reads a scenario from standard input and writes the transcript of its run to standard output: at
+//! the word `replay` of the run by turns, at the word `run` of a run by threads.
 #![tactic(auto)]
 
-use bc_top::{End, offline};
+use bc_actors::NoGate;
+use bc_top::{End, top};
 use std::process::ExitCode;
 use std::{env, io};
 use text_io::{InAdapter, OutAdapter};
@@ -13,6 +15,15 @@ fn words(rt: &HostRuntime) -> io::Result<Vec<String>> {
         words.push(word)?;
     }
     Ok(words)
+}
+
+/// How the program ends where its words cannot be had.
+fn end_without_words(error: &io::Error) -> End {
+    match error.kind() {
+        io::ErrorKind::OutOfMemory => End::NoMemory,
+        // A word that is not UTF-8 is none of the program's.
+        _ => End::Usage,
+    }
 }
 
 /// Says on standard error why there is no transcript.
@@ -30,21 +41,16 @@ fn report(rt: &HostRuntime, end: &End) -> io::Result<()> {
     }
 }
 
-/// Does what the words of the command line ask for.
-fn run(rt: &HostRuntime) -> End {
-    let words = match words(rt) {
-        Ok(words) => words,
-        Err(e) if e.kind() == io::ErrorKind::OutOfMemory => return End::NoMemory,
-        // A word that is not UTF-8 is none of the program's.
-        Err(_) => return End::Usage,
-    };
-    let mut source = InAdapter::new(rt.reader());
-    let mut sink = OutAdapter::new(io::writer(rt));
-    offline(rt.alloc(), &words, &mut source, &mut sink)
-}
-
+/// Does what the words of the command line ask for. No thread of a run is delayed.
 fn main(rt: HostRuntime) -> ExitCode {
-    let end = run(&rt);
+    let end = match words(&rt) {
+        Ok(words) => {
+            let mut source = InAdapter::new(rt.reader());
+            let mut sink = OutAdapter::new(io::writer(&rt));
+            top(&rt, rt.alloc(), &words, &mut source, &mut sink, &NoGate)
+        }
+        Err(error) => end_without_words(&error),
+    };
     // Where standard error takes nothing, the status still tells the end.
     let _ = report(&rt, &end);
     ExitCode::from(end.status())

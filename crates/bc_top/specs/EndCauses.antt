@@ -1,32 +1,34 @@
 -- What a call ends with, and why.
-use Rattle.std.specs.Prelude.{ℕ, List}
+use Rattle.std.specs.Prelude.{◌≡◌, ℕ, List, Some, None}
 use Rattle.text_io.specs.declared.reason.Reason.{Reason}
 use Rattle.bc_history.specs.Scenario.LineFaults.{IsFirstFault}
-use Rattle.bc_top.specs.CommandWords.{IsReplay}
 use Rattle.bc_top.specs.ReadToEnd.{IsUnread, IsReadPart, IsReadWhole, IsReadTooFar, IsReadFault}
 use Rattle.bc_top.specs.WriteAll.{IsUnwritten, IsWritten, IsWriteFault}
 use Rattle.bc_top.specs.Call.{Call, IsTranscriptOf, IsOutOfTurn, IsOverfull}
+use Rattle.bc_top.specs.declared.words.Command.{Command}
 use Rattle.bc_top.specs.declared.outcome.End.{End}
 use Rattle.bc_top.specs.declared.outcome.End.TheVariants.{Done, Usage, Refused, ReadFault, WriteFault, Events, NoMemory, NotDue, TooLong}
 
 -- the source was read to its end, and the transcript of what was read was written
 pub record IsDone (c : Call) : Type 0 where
-  pub replay : IsReplay c.words
+  pub command : Command
+  pub asked : c.command ≡ Some command
   pub text : List ℕ
   pub read : IsReadWhole c.reads text
   pub out : List ℕ
-  pub transcript : IsTranscriptOf text out
+  pub transcript : IsTranscriptOf command text out
   pub written : IsWritten c.writes out
 
--- the words are none that the program takes, and nothing was read or written
+-- the words name no command that is taken, and nothing was read or written
 pub record IsUsage (c : Call) : Type 0 where
-  pub other : ¬ (IsReplay c.words)
+  pub other : c.command ≡ None
   pub unread : IsUnread c.reads
   pub unwritten : IsUnwritten c.writes
 
 -- the source was read to its end, and what was read is refused by its first fault
 pub record IsRefused (c : Call) (line : ℕ) (reason : Reason) : Type 0 where
-  pub replay : IsReplay c.words
+  pub command : Command
+  pub asked : c.command ≡ Some command
   pub text : List ℕ
   pub read : IsReadWhole c.reads text
   pub fault : IsFirstFault text line reason
@@ -34,44 +36,50 @@ pub record IsRefused (c : Call) (line : ℕ) (reason : Reason) : Type 0 where
 
 -- a read failed
 pub record IsFaultOfReading (c : Call) : Type 0 where
-  pub replay : IsReplay c.words
+  pub command : Command
+  pub asked : c.command ≡ Some command
   pub failed : IsReadFault c.reads
   pub unwritten : IsUnwritten c.writes
 
 -- a write failed, after a part of the transcript
 pub record IsFaultOfWriting (c : Call) : Type 0 where
-  pub replay : IsReplay c.words
+  pub command : Command
+  pub asked : c.command ≡ Some command
   pub text : List ℕ
   pub read : IsReadWhole c.reads text
   pub out : List ℕ
-  pub transcript : IsTranscriptOf text out
+  pub transcript : IsTranscriptOf command text out
   pub failed : IsWriteFault c.writes out
 
 -- the source was read to its end, and the scenario of what was read ends at one event too many
 pub record IsTooMany (c : Call) : Type 0 where
-  pub replay : IsReplay c.words
+  pub command : Command
+  pub asked : c.command ≡ Some command
   pub text : List ℕ
   pub read : IsReadWhole c.reads text
-  pub overfull : IsOverfull text
+  pub overfull : IsOverfull command text
   pub unwritten : IsUnwritten c.writes
 
 -- the source was read to its end, and the scenario of what was read ends at a turn that has no step
 pub record IsNotDue (c : Call) (turn : ℕ) : Type 0 where
-  pub replay : IsReplay c.words
+  pub command : Command
+  pub asked : c.command ≡ Some command
   pub text : List ℕ
   pub read : IsReadWhole c.reads text
-  pub out_of_turn : IsOutOfTurn text turn
+  pub out_of_turn : IsOutOfTurn command text turn
   pub unwritten : IsUnwritten c.writes
 
 -- the source gave one octet more than a text may have
 pub record IsTooLong (c : Call) : Type 0 where
-  pub replay : IsReplay c.words
+  pub command : Command
+  pub asked : c.command ≡ Some command
   pub far : IsReadTooFar c.reads
   pub unwritten : IsUnwritten c.writes
 
 -- want of memory has no cause that is told, but no read failed and nothing was written
 pub record IsNoMemory (c : Call) : Type 0 where
-  pub replay : IsReplay c.words
+  pub command : Command
+  pub asked : c.command ≡ Some command
   pub read : IsReadPart c.reads
   pub unwritten : IsUnwritten c.writes
 

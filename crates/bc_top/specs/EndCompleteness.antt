@@ -8,8 +8,9 @@ use Rattle.bc_history.specs.declared.scenario.Scenario.{Scenario}
 use Rattle.bc_history.specs.declared.entry.Run.{Run}
 use Rattle.bc_history.specs.Scenario.LineFaults.{Stands, IsFirstFault}
 use Rattle.bc_history.specs.Run.World.{IsWorld, IsEnd, Events as Too_many, Not_due}
-use Rattle.bc_top.specs.CommandWords.{IsReplay}
 use Rattle.bc_top.specs.Call.{Call}
+use Rattle.bc_top.specs.declared.words.Command.{Command}
+use Rattle.bc_top.specs.declared.words.Command.TheVariants.{Replay, Run as By_threads}
 use Rattle.bc_top.specs.declared.outcome.End.{End}
 use Rattle.bc_top.specs.declared.outcome.End.TheVariants.{Done, Refused, Events, NoMemory, NotDue, TooLong}
 
@@ -17,21 +18,28 @@ use Rattle.bc_top.specs.declared.outcome.End.TheVariants.{Done, Refused, Events,
 abbrev pub EndsBy : End → End → Type 0
 EndsBy due end = (end ≡ due) ⊎ (end ≡ NoMemory)
 
--- the end that is due at a text
-pub record IsEndAt (text : List ℕ) (end : End) : Type 0 where
-  pub done : length text ≤ TEXT_MAX → (s : Scenario) (run : Run) → Stands text s
-      → IsWorld s run → EndsBy Done end
-  pub events : length text ≤ TEXT_MAX → (s : Scenario) → Stands text s
-      → IsEnd s Too_many → EndsBy Events end
-  pub not_due : length text ≤ TEXT_MAX → (s : Scenario) (turn : ℕ) → Stands text s
-      → IsEnd s (Not_due turn) → EndsBy (NotDue turn) end
+-- the end that is due where a scenario is replayed: as its turns end
+pub record IsEndOfTurns (s : Scenario) (end : End) : Type 0 where
+  pub done : (run : Run) → IsWorld s run → EndsBy Done end
+  pub events : IsEnd s Too_many → EndsBy Events end
+  pub not_due : (turn : ℕ) → IsEnd s (Not_due turn) → EndsBy (NotDue turn) end
+
+-- an end that is due at a scenario by the command; it is open whether threads come to one event too
+-- many
+abbrev pub IsEndOf : Command → Scenario → End → Type 0
+IsEndOf Replay s end = IsEndOfTurns s end
+IsEndOf By_threads s end = EndsBy Done end ⊎ EndsBy Events end
+
+-- an end that is due at a text by the command
+pub record IsEndAt (command : Command) (text : List ℕ) (end : End) : Type 0 where
+  pub stands : length text ≤ TEXT_MAX → (s : Scenario) → Stands text s → IsEndOf command s end
   pub refused : length text ≤ TEXT_MAX → (line : ℕ) (reason : Reason)
       → IsFirstFault text line reason → EndsBy (Refused line reason) end
   pub too_long : TEXT_MAX < length text → EndsBy TooLong end
 
--- the end of a call to replay is the one that is due at the text that the source told
-abbrev pub IsComplete : Call → End → Type 0
-IsComplete c end =
-    IsReplay c.words → ¬ (Rose c.reads.faults c.reads.faults_after)
-    → ¬ (Rose c.writes.faults c.writes.faults_after)
-    → (text : List ℕ) → c.reads.left ≡ Some text → IsEndAt text end
+-- the end of a call for a command is one that is due at the text that the source told
+pub record IsComplete (c : Call) (end : End) : Type 0 where
+  pub due : (command : Command) → c.command ≡ Some command
+      → ¬ (Rose c.reads.faults c.reads.faults_after)
+      → ¬ (Rose c.writes.faults c.writes.faults_after)
+      → (text : List ℕ) → c.reads.left ≡ Some text → IsEndAt command text end

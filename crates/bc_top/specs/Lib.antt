@@ -1,4 +1,5 @@
 pub mod CommandWords
+pub mod CommandRuns
 pub mod ExitStatus
 pub mod ReadToEnd
 pub mod WriteAll

@@ -1,5 +1,8 @@
-use crate::End;
-use text_io::Reason;
+use crate::{End, offline, top};
+use bc_actors::NoGate;
+use std::alloc::Global;
+use std::test::Fail;
+use text_io::{MemSink, MemSource, Reason};
 
 #[test]
 fn each_end_has_its_status(rt: HostRuntime) {
@@ -20,4 +23,42 @@ fn each_end_has_its_status(rt: HostRuntime) {
     ] {
         assert_eq!(rt; end.status(), status);
     }
+}
+
+/// The words of a line.
+fn words(alloc: Global, line: &str) -> Result<Vec<String>, Fail> {
+    let mut words = Vec::new(alloc);
+    for word in line.split_ascii_whitespace() {
+        words.push(String::from_str(alloc, word)?)?;
+    }
+    Ok(words)
+}
+
+#[test]
+fn top_takes_two_words_and_offline_one(rt: HostRuntime) -> Result<(), Fail> {
+    let alloc = rt.alloc();
+    let text = b"[port 1]\n[ports]\n";
+    let refused = End::Refused {
+        line: 2,
+        reason: Reason::Section,
+    };
+    for (line, by_top, on_one_thread) in [
+        ("replay", refused, refused),
+        ("run", refused, End::Usage),
+        ("", End::Usage, End::Usage),
+        ("Run", End::Usage, End::Usage),
+        ("run run", End::Usage, End::Usage),
+        ("replay run", End::Usage, End::Usage),
+    ] {
+        let words = words(alloc, line)?;
+        let mut to = MemSink::new(alloc);
+        let mut from = MemSource::new(Vec::from_slice(alloc, text)?);
+        let end = top(&rt, alloc, &words, &mut from, &mut to, &NoGate);
+        assert_eq!(rt; end, by_top, "top at {line}");
+        let mut from = MemSource::new(Vec::from_slice(alloc, text)?);
+        let end = offline(alloc, &words, &mut from, &mut to);
+        assert_eq!(rt; end, on_one_thread, "offline at {line}");
+        assert_eq!(rt; to.octets(), b"".as_slice());
+    }
+    Ok(())
 }

@@ -1,19 +1,33 @@
-ghost use Rattle.std.specs.Prelude.{◌≡◌, ◌↔◌, List, [], ◌∷◌, map, IsTrue, codes, string_bytes};
-ghost use Rattle.bc_top.specs.CommandWords.{IsReplay};
+ghost use Rattle.std.specs.Prelude.{◌≡◌, List, [], ◌∷◌, map, find, string_bytes};
+ghost use Rattle.std.specs.Str.{bytes_eq};
+ghost use Rattle.bc_top.specs.CommandWords.{command_named, top_command};
 
-/// Whether the words are the one word `replay`.
-pub fn is_replay(words: &[String]) -> bool
-    ensures { IsTrue result ↔ IsReplay (map string_bytes words.now) }
+/// What words ask for.
+#[derive(Clone, Copy, Debug, PartialEq, Eq)]
+pub enum Command {
+    /// The run of a scenario by its turns, on one thread.
+    Replay,
+    /// A run of a scenario by threads.
+    Run,
+}
+
+/// The command that the words name.
+pub fn command_of(words: &[String]) -> Option<Command>
+    ensures { result ≡ top_command (map string_bytes words.now) }
 {
     match words {
-        [word] => is_replay_word(word.as_str()),
-        _ => false,
+        [word] => command_named(word.as_str()),
+        _ => None,
     }
 }
 
-/// Whether the word is `replay`.
-fn is_replay_word(word: &str) -> bool
-    ensures { IsTrue result ↔ (word.now ≡ codes "replay") }
+/// The command whose word this is.
+fn command_named(word: &str) -> Option<Command>
+    ensures { result ≡ top_command (word.now ∷ []) }
 {
-    word == "replay"
+    match word {
+        "replay" => Some(Command::Replay),
+        "run" => Some(Command::Run),
+        _ => None,
+    }
 }

@@ -1,12 +1,10 @@
--- What a text stands for, and what ends there, is one.
-use Rattle.std.proofs.Common.{◌≡◌, ℕ, ◌<◌, List, Some, None, sym, ap, ◌∙◌, subst, inl, inr, arith}
+-- What a text stands for, or its first fault, is one.
+use Rattle.std.proofs.Common.{◌≡◌, ℕ, ◌<◌, List, Some, None, sym, ap, ◌∙◌, inl, inr, arith}
 use Rattle.std.proofs.lemmas.Bool.{cases_lt}
 use Rattle.text_io.specs.declared.reason.Reason.{Reason}
 use Rattle.text_io.specs.TextLines.{lines_of_text}
 use Rattle.bc_history.specs.declared.scenario.Scenario.{Scenario}
 use Rattle.bc_history.specs.Scenario.LineFaults.{Stands, IsFirstFault, fault_at}
-use Rattle.bc_history.specs.Run.World.{End, IsEnd}
-use Rattle.bc_history.proofs.lemmas.EndLemmas.{one_end}
 
 pub one_scenario : (text : List ℕ) (s t : Scenario) → Stands text s → Stands text t → s ≡ t
 one_scenario text s t a b = a.said ∙ sym b.said
@@ -38,7 +36,3 @@ pub one_reason : (text : List ℕ) (line other : ℕ) (reason further : Reason) 
 one_reason text line other reason further a b =
     let same : Some reason ≡ Some further = sym a.faulty ∙ (ap (fault_at (lines_of_text text)) (one_index text line other reason further a b) ∙ b.faulty) in
     cc
-
--- a text has one end
-pub one_end-of : (text : List ℕ) (s t : Scenario) (end other : End) → Stands text s → Stands text t → IsEnd s end → IsEnd t other → end ≡ other
-one_end-of text s t end other a b first second = one_end t end other (subst (λ u. IsEnd u end) (one_scenario text s t a b) first) second

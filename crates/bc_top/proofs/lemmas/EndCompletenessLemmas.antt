@@ -2,6 +2,7 @@
 use Rattle.std.proofs.Common.{◌≡◌, ℕ, ◌≤◌, List, ◌++◌, length, Option, Some, None, refl, sym, ◌∙◌, ap, subst, inl, inr, arith, length-append}
 use Rattle.std.proofs.lemmas.List.{append-nil}
 use Rattle.std.specs.Io.KnownBytes.{Consumes, IsAtEnd}
+use Rattle.text_io.specs.SourceAndSink.{Rose}
 use Rattle.text_io.specs.declared.reason.Reason.{Reason}
 use Rattle.ptp_base.specs.declared.limits.TheConstants.{TEXT_MAX}
 use Rattle.bc_history.specs.declared.scenario.Scenario.{Scenario}
@@ -9,12 +10,16 @@ use Rattle.bc_history.specs.declared.entry.Run.{Run}
 use Rattle.bc_history.specs.Scenario.LineFaults.{Stands, IsFirstFault}
 use Rattle.bc_history.specs.Run.World.{IsEnd, IsWorld, Finished, Not_due, Events as Too_many}
 use Rattle.bc_top.specs.ReadToEnd.{Reads, AreRead, IsReadWhole}
-use Rattle.bc_top.specs.Call.{Call, IsTranscriptOf, IsOutOfTurn, IsOverfull}
+use Rattle.bc_top.specs.Call.{Call}
+use Rattle.bc_top.specs.CommandRuns.{IsRunBy, Overflows, StopsAt}
 use Rattle.bc_top.specs.EndCauses.{IsCaused}
-use Rattle.bc_top.specs.EndCompleteness.{IsEndAt, IsComplete}
+use Rattle.bc_top.specs.EndCompleteness.{IsEndOfTurns, IsEndOf, IsEndAt, IsComplete}
+use Rattle.bc_top.specs.declared.words.Command.{Command}
+use Rattle.bc_top.specs.declared.words.Command.TheVariants.{Replay, Run as By_threads}
 use Rattle.bc_top.specs.declared.outcome.End.{End}
 use Rattle.bc_top.specs.declared.outcome.End.TheVariants.{Done, Usage, Refused, ReadFault, WriteFault, Events, NoMemory, NotDue, TooLong}
-use Rattle.bc_top.proofs.lemmas.CallLemmas.{stands-faultless, one_line, one_end-of, one_reason}
+use Rattle.bc_top.proofs.lemmas.CallLemmas.{one_scenario, stands-faultless, one_line, one_reason}
+use Rattle.bc_history.proofs.lemmas.EndLemmas.{one_end}
 
 all_was_read : (after : Option (List ℕ)) (text octets : List ℕ) → Consumes (Some text) after octets → IsAtEnd after → octets ≡ text
 all_was_read None text octets given end = absurd given
@@ -30,96 +35,133 @@ within_text (Some rest) text octets given = rw (given, length-append octets rest
 octets_within : (r : Reads) (text octets : List ℕ) → r.left ≡ Some text → AreRead r octets → length octets ≤ length text
 octets_within r text octets told read = within_text r.left_after text octets (rw told at read.given)
 
--- ---- the end at a text that was read whole
+-- ---- the end at a scenario that turns run
 
--- a text whose scenario has a run has no other end
-run_not_full : (text : List ℕ) (s t : Scenario) (run : Run) → Stands text s → Stands text t → IsWorld s run → IsEnd t Too_many → ⊥
-run_not_full text s t run a b world events = let same : Finished run ≡ Too_many = one_end-of text s t (Finished run) Too_many a b world events in cc
+-- a scenario that has a run has no other end
+finished_not_full : (s : Scenario) (run : Run) → IsWorld s run → IsEnd s Too_many → ⊥
+finished_not_full s run world events = let same : Finished run ≡ Too_many = one_end s (Finished run) Too_many world events in cc
 
-run_not_stopped : (text : List ℕ) (s t : Scenario) (run : Run) (turn : ℕ) → Stands text s → Stands text t → IsWorld s run → IsEnd t (Not_due turn) → ⊥
-run_not_stopped text s t run turn a b world undue = let same : Finished run ≡ Not_due turn = one_end-of text s t (Finished run) (Not_due turn) a b world undue in cc
+finished_not_stopped : (s : Scenario) (run : Run) (turn : ℕ) → IsWorld s run → IsEnd s (Not_due turn) → ⊥
+finished_not_stopped s run turn world undue = let same : Finished run ≡ Not_due turn = one_end s (Finished run) (Not_due turn) world undue in cc
 
 -- and one that ends at one event too many does not end at a turn
-full_not_stopped : (text : List ℕ) (s t : Scenario) (turn : ℕ) → Stands text s → Stands text t → IsEnd s Too_many → IsEnd t (Not_due turn) → ⊥
-full_not_stopped text s t turn a b events undue = let same : Too_many ≡ Not_due turn = one_end-of text s t Too_many (Not_due turn) a b events undue in cc
+full_not_stopped : (s : Scenario) (turn : ℕ) → IsEnd s Too_many → IsEnd s (Not_due turn) → ⊥
+full_not_stopped s turn events undue = let same : Too_many ≡ Not_due turn = one_end s Too_many (Not_due turn) events undue in cc
 
 -- turns without a step are one
-one_turn : (text : List ℕ) (s t : Scenario) (turn other : ℕ) → Stands text s → Stands text t → IsEnd s (Not_due turn) → IsEnd t (Not_due other) → NotDue turn ≡ NotDue other
-one_turn text s t turn other a b first second =
-    let same : Not_due turn ≡ Not_due other = one_end-of text s t (Not_due turn) (Not_due other) a b first second in
+one_turn : (s : Scenario) (turn other : ℕ) → IsEnd s (Not_due turn) → IsEnd s (Not_due other) → NotDue turn ≡ NotDue other
+one_turn s turn other first second =
+    let same : Not_due turn ≡ Not_due other = one_end s (Not_due turn) (Not_due other) first second in
     let turns : turn ≡ other = cc in
     ap (λ n. NotDue n) turns
 
-done-at : (text out : List ℕ) → length text ≤ TEXT_MAX → IsTranscriptOf text out → IsEndAt text Done
-done-at text out short made = record {
-  done = λ few s run stands world. inl refl;
-  events = λ few s stands events. absurd (run_not_full text made.scenario s made.run made.stands stands made.world events);
-  not_due = λ few s turn stands undue. absurd (run_not_stopped text made.scenario s made.run turn made.stands stands made.world undue);
-  refused = λ few line reason fault. absurd (stands-faultless text made.scenario line reason made.stands fault);
+finished-of : (s : Scenario) (run : Run) → IsWorld s run → IsEndOfTurns s Done
+finished-of s run world = record {
+  done = λ other second. inl refl;
+  events = λ events. absurd (finished_not_full s run world events);
+  not_due = λ turn undue. absurd (finished_not_stopped s run turn world undue);
+}
+
+full-of : (s : Scenario) → IsEnd s Too_many → IsEndOfTurns s Events
+full-of s events = record {
+  done = λ run world. absurd (finished_not_full s run world events);
+  events = λ second. inl refl;
+  not_due = λ turn undue. absurd (full_not_stopped s turn events undue);
+}
+
+stopped-of : (s : Scenario) (turn : ℕ) → IsEnd s (Not_due turn) → IsEndOfTurns s (NotDue turn)
+stopped-of s turn undue = record {
+  done = λ run world. absurd (finished_not_stopped s run turn world undue);
+  events = λ events. absurd (full_not_stopped s turn events undue);
+  not_due = λ other second. inl (one_turn s turn other undue second);
+}
+
+-- ---- the end at a scenario, by the command
+
+done-of : (command : Command) (s : Scenario) (run : Run) → IsRunBy command s run → IsEndOf command s Done
+done-of Replay s run made = finished-of s run made.0
+done-of By_threads s run made = inl (inl refl)
+
+events-of : (command : Command) (s : Scenario) → Overflows command s → IsEndOf command s Events
+events-of Replay s over = full-of s over
+events-of By_threads s over = inr (inl refl)
+
+not_due-of : (command : Command) (s : Scenario) (turn : ℕ) → StopsAt command s turn → IsEndOf command s (NotDue turn)
+not_due-of Replay s turn undue = stopped-of s turn undue
+not_due-of By_threads s turn undue = absurd undue
+
+memory-of : (command : Command) (s : Scenario) → IsEndOf command s NoMemory
+memory-of Replay s = record {
+  done = λ run world. inr refl;
+  events = λ events. inr refl;
+  not_due = λ turn undue. inr refl;
+}
+memory-of By_threads s = inl (inr refl)
+
+-- ---- the end at a text that was read whole
+
+-- the end of one scenario that the text stands for is that of the text
+scenario-at : (command : Command) (text : List ℕ) (s : Scenario) (end : End) → length text ≤ TEXT_MAX → Stands text s → IsEndOf command s end → IsEndAt command text end
+scenario-at command text s end short stands of = record {
+  stands = λ few t second. subst (λ u. IsEndOf command u end) (one_scenario text s t stands second) of;
+  refused = λ few line reason fault. absurd (stands-faultless text s line reason stands fault);
   too_long = λ long. absurd (omega (arith, long, short));
 }
 
 same_refusal : (line other : ℕ) (reason further : Reason) → line ≡ other → reason ≡ further → Refused line reason ≡ Refused other further
 same_refusal line other reason further lines reasons = cc
 
-refused-at : (text : List ℕ) (line : ℕ) (reason : Reason) → length text ≤ TEXT_MAX → IsFirstFault text line reason → IsEndAt text (Refused line reason)
-refused-at text line reason short fault = record {
-  done = λ few s run stands world. absurd (stands-faultless text s line reason stands fault);
-  events = λ few s stands events. absurd (stands-faultless text s line reason stands fault);
-  not_due = λ few s turn stands undue. absurd (stands-faultless text s line reason stands fault);
+refused-at : (command : Command) (text : List ℕ) (line : ℕ) (reason : Reason) → length text ≤ TEXT_MAX → IsFirstFault text line reason → IsEndAt command text (Refused line reason)
+refused-at command text line reason short fault = record {
+  stands = λ few s stands. absurd (stands-faultless text s line reason stands fault);
   refused = λ few other further first. inl (same_refusal line other reason further (one_line text line other reason further fault first) (one_reason text line other reason further fault first));
   too_long = λ long. absurd (omega (arith, long, short));
 }
 
-events-at : (text : List ℕ) → length text ≤ TEXT_MAX → IsOverfull text → IsEndAt text Events
-events-at text short over = record {
-  done = λ few s run stands world. absurd (run_not_full text s over.scenario run stands over.stands world over.events);
-  events = λ few s stands events. inl refl;
-  not_due = λ few s turn stands undue. absurd (full_not_stopped text over.scenario s turn over.stands stands over.events undue);
-  refused = λ few line reason fault. absurd (stands-faultless text over.scenario line reason over.stands fault);
-  too_long = λ long. absurd (omega (arith, long, short));
-}
-
-not_due-at : (text : List ℕ) (turn : ℕ) → length text ≤ TEXT_MAX → IsOutOfTurn text turn → IsEndAt text (NotDue turn)
-not_due-at text turn short of = record {
-  done = λ few s run stands world. absurd (run_not_stopped text s of.scenario run turn stands of.stands world of.undue);
-  events = λ few s stands events. absurd (full_not_stopped text s of.scenario turn stands of.stands events of.undue);
-  not_due = λ few s other stands undue. inl (one_turn text of.scenario s turn other of.stands stands of.undue undue);
-  refused = λ few line reason fault. absurd (stands-faultless text of.scenario line reason of.stands fault);
-  too_long = λ long. absurd (omega (arith, long, short));
-}
-
-memory-at : (text : List ℕ) → IsEndAt text NoMemory
-memory-at text = record {
-  done = λ few s run stands world. inr refl;
-  events = λ few s stands events. inr refl;
-  not_due = λ few s turn stands undue. inr refl;
+memory-at : (command : Command) (text : List ℕ) → IsEndAt command text NoMemory
+memory-at command text = record {
+  stands = λ few s stands. memory-of command s;
   refused = λ few line reason fault. inr refl;
   too_long = λ long. inr refl;
 }
 
-too_long-at : (text : List ℕ) → (length text ≤ TEXT_MAX → ⊥) → IsEndAt text TooLong
-too_long-at text long = record {
-  done = λ few s run stands world. absurd (long few);
-  events = λ few s stands events. absurd (long few);
-  not_due = λ few s turn stands undue. absurd (long few);
+too_long-at : (command : Command) (text : List ℕ) → (length text ≤ TEXT_MAX → ⊥) → IsEndAt command text TooLong
+too_long-at command text long = record {
+  stands = λ few s stands. absurd (long few);
   refused = λ few line reason fault. absurd (long few);
   too_long = λ far. inl refl;
 }
 
--- what was read whole is the text
-at_text : (r : Reads) (text octets : List ℕ) (end : End) → r.left ≡ Some text → IsReadWhole r octets → IsEndAt octets end → IsEndAt text end
-at_text r text octets end told read at = subst (λ t. IsEndAt t end) (text_is r text octets told read) at
+-- ---- the end of a call
+
+-- a call is for one command
+one_command : (c : Call) (command other : Command) → c.command ≡ Some command → c.command ≡ Some other → command ≡ other
+one_command c command other first second = let same : Some command ≡ Some other = sym first ∙ second in cc
+
+-- what was read whole is the text, and the command the one that is asked for
+at_text : (c : Call) (command other : Command) (text octets : List ℕ) (end : End) → c.command ≡ Some other → c.command ≡ Some command → c.reads.left ≡ Some text → IsReadWhole c.reads octets → IsEndAt other octets end → IsEndAt command text end
+at_text c command other text octets end asked by told read at =
+    subst (λ t. IsEndAt command t end) (text_is c.reads text octets told read) (subst (λ k. IsEndAt k octets end) (one_command c other command asked by) at)
+
+due-of : (c : Call) (end : End) → IsCaused c end → (command : Command) → c.command ≡ Some command → ¬ (Rose c.reads.faults c.reads.faults_after) → ¬ (Rose c.writes.faults c.writes.faults_after) → (text : List ℕ) → c.reads.left ≡ Some text → IsEndAt command text end
+due-of c Done cause command by no_read no_write text told =
+    let t = cause.transcript in
+    at_text c command cause.command text cause.text Done cause.asked by told cause.read (scenario-at cause.command cause.text t.scenario Done cause.read.short t.stands (done-of cause.command t.scenario t.run t.made))
+due-of c Usage cause command by no_read no_write text told = let none : None ≡ Some command = sym cause.other ∙ by in absurd cc
+due-of c (Refused line reason) cause command by no_read no_write text told =
+    at_text c command cause.command text cause.text (Refused line reason) cause.asked by told cause.read (refused-at cause.command cause.text line reason cause.read.short cause.fault)
+due-of c ReadFault cause command by no_read no_write text told = absurd (no_read cause.failed.counted.0)
+due-of c WriteFault cause command by no_read no_write text told = absurd (no_write cause.failed.counted.0)
+due-of c Events cause command by no_read no_write text told =
+    let o = cause.overfull in
+    at_text c command cause.command text cause.text Events cause.asked by told cause.read (scenario-at cause.command cause.text o.scenario Events cause.read.short o.stands (events-of cause.command o.scenario o.events))
+due-of c (NotDue turn) cause command by no_read no_write text told =
+    let o = cause.out_of_turn in
+    at_text c command cause.command text cause.text (NotDue turn) cause.asked by told cause.read (scenario-at cause.command cause.text o.scenario (NotDue turn) cause.read.short o.stands (not_due-of cause.command o.scenario turn o.undue))
+due-of c NoMemory cause command by no_read no_write text told = memory-at command text
+due-of c TooLong cause command by no_read no_write text told =
+    let within = octets_within c.reads text cause.far.octets told cause.far.read in
+    too_long-at command text (λ short. omega (arith, short, within, cause.far.long))
 
 pub complete : (c : Call) (end : End) → IsCaused c end → IsComplete c end
-complete c Done cause = λ words no_read no_write text told. at_text c.reads text cause.text Done told cause.read (done-at cause.text cause.out cause.read.short cause.transcript)
-complete c Usage cause = λ words no_read no_write text told. absurd (cause.other words)
-complete c (Refused line reason) cause = λ words no_read no_write text told. at_text c.reads text cause.text (Refused line reason) told cause.read (refused-at cause.text line reason cause.read.short cause.fault)
-complete c ReadFault cause = λ words no_read no_write text told. absurd (no_read cause.failed.counted.0)
-complete c WriteFault cause = λ words no_read no_write text told. absurd (no_write cause.failed.counted.0)
-complete c Events cause = λ words no_read no_write text told. at_text c.reads text cause.text Events told cause.read (events-at cause.text cause.read.short cause.overfull)
-complete c (NotDue turn) cause = λ words no_read no_write text told. at_text c.reads text cause.text (NotDue turn) told cause.read (not_due-at cause.text turn cause.read.short cause.out_of_turn)
-complete c NoMemory cause = λ words no_read no_write text told. memory-at text
-complete c TooLong cause = λ words no_read no_write text told.
-    let within = octets_within c.reads text cause.far.octets told cause.far.read in
-    too_long-at text (λ short. omega (arith, short, within, cause.far.long))
+complete c end cause = record { due = due-of c end cause }
