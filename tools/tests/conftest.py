@@ -59,6 +59,5 @@ def captures_folder() -> Path | None:
 def captures() -> Path:
     """The folder of real captures."""
     folder = captures_folder()
-    if folder is None:
-        pytest.skip("no captures; BAHUPY_CAPTURES names a folder with rivals and single")
+    assert folder is not None, "BAHUPY_CAPTURES names no folder with rivals and single"
     return folder
