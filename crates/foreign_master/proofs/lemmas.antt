@@ -1,8 +1,13 @@
+pub mod PortOrderLemmas
+pub mod RisingLemmas
 pub mod ForeignMasterTableLemmas
-pub mod FirstFoundLemmas
 pub mod SearchAfterWriteLemmas
+pub mod FirstFoundLemmas
 pub mod RecordsViewLemmas
 pub mod SenderLemmas
 pub mod HearingLemmas
-pub mod PassOrderLemmas
+pub mod PassLemmas
+pub mod QualifiedLemmas
+pub mod SettledLemmas
+pub mod BestLemmas
 pub mod RecordCallLemmas

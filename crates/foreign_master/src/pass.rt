@@ -1,80 +1,93 @@
-ghost use Rattle.std.specs.Prelude.{◌≡◌, ◌<◌, List, IfSome};
+ghost use Rattle.std.specs.Prelude.{◌≡◌, ◌+◌, ◌-◌, ◌<◌, ◌&&◌, if◌then◌else◌, [], ◌∷◌, fold, length, is_some, IfSome};
 ghost use Rattle.ptp_base.specs.declared.limits.TheConstants.{STEPS_END};
-ghost use Rattle.ptp_profile.specs.declared.foreign_master.KeptAnnounce.{KeptAnnounce};
-ghost use Rattle.ptp_profile.specs.Best.ForeignMasters.{erbest};
-ghost use Rattle.foreign_master.specs.ForeignMasterTable.{MastersRepresent, IsReached, AreNear};
-ghost use Rattle.foreign_master.specs.PassOrder.{is_above, nearer, next_eligible};
+ghost use Rattle.ptp_base.specs.Least.{lesser};
+ghost use Rattle.ptp_profile.specs.Best.ForeignMasters.{better};
+ghost use Rattle.foreign_master.specs.ForeignMasterTable.{is_qualified, qualified_of, said_by, befores_of, AreNear};
+ghost use Rattle.foreign_master.specs.RecordsView.{IsPassOver};
 
 use crate::foreign_master::ForeignMaster;
-use crate::window::is_within;
-use ds_compare::better;
-use ptp_base::{Announcement, PortId};
+use crate::window::is_in_window;
+use ds_compare::{Steps, better};
+use ptp_base::Announcement;
+use std::sync::ledger::Ledger;
 
-/// Whether the sender is above a former one, if there is one.
-fn is_above(former: Option<PortId>, sender: PortId) -> bool
-    ensures { result ≡ is_above former sender }
+/// What one pass over the foreign masters found.
+#[derive(Clone, Copy, Debug)]
+pub(crate) struct Pass {
+    /// The winner of those that qualify.
+    pub winner: Option<Announcement>,
+    /// Of those that qualify, the one that leaves the window first: when the Announce before its
+    /// latest came, in ticks (ns). It leaves the window's length after that.
+    pub oldest: Option<u64>,
+}
+
+/// The pass over no foreign master.
+pub(crate) fn no_pass() -> Pass
+    ensures { result ≡ record { winner = None; oldest = None } }
 {
-    match former {
-        None => true,
-        Some(former) => former < sender,
+    Pass {
+        winner: None,
+        oldest: None,
     }
 }
 
-/// Of the nearest so far and another foreign master, that of the lower sender. Only one that
-/// qualifies, and whose sender is above the former one, counts.
-fn nearer(
-    nearest: Option<ForeignMaster>,
-    master: &ForeignMaster,
-    window: u64,
-    at: u64,
-    former: Option<PortId>,
-) -> Option<ForeignMaster>
-    ensures { result ≡ nearer window at former nearest master.now }
+/// The earlier of two moments, where there is a former one.
+fn earlier(former: Option<u64>, moment: u64) -> Option<u64>
+    ensures { result ≡ lesser (λ m. m) former moment }
 {
-    if !is_above(former, master.said.sender) || !is_within(master.before, window, at) {
-        return nearest;
-    }
-    match nearest {
-        None => Some(*master),
-        Some(lowest) => {
-            if master.said.sender < lowest.said.sender {
-                Some(*master)
+    match former {
+        None => Some(moment),
+        Some(former) => {
+            if moment < former {
+                Some(moment)
             } else {
-                Some(lowest)
+                Some(former)
             }
         }
     }
 }
 
-/// The foreign master that qualifies, of the least sender above a former one.
-fn find_next(
+/// A pass that goes on with one foreign master: only one that qualifies counts.
+fn pass_with<L: Ledger>(
+    pass: Pass,
+    master: &ForeignMaster,
+    window: u64,
+    at: u64,
+    steps: &mut Steps<L>,
+) -> Pass
+    ensures winner { result.winner ≡ fold better pass.winner (said_by window at (master.now ∷ [])) }
+    ensures oldest { result.oldest
+        ≡ fold (lesser (λ m. m)) pass.oldest (befores_of window at (master.now ∷ [])) }
+    ensures counted { steps.new ≡ steps.old
+        + (if is_qualified window at master.now && is_some pass.winner then 1 else 0) }
+{
+    match master.before {
+        Some(before) if is_in_window(before, window, at) => Pass {
+            winner: better(pass.winner, &master.said, steps),
+            oldest: earlier(pass.oldest, before),
+        },
+        _ => pass,
+    }
+}
+
+/// One pass over the foreign masters that qualify, in rising sender identity, which is their order
+/// (IEEE 1588-2019, 9.3.2; the order of the pass is the project's). Each but the first is compared
+/// once.
+pub(crate) fn pass_over<L: Ledger>(
     masters: &[ForeignMaster],
     window: u64,
     at: u64,
-    former: Option<PortId>,
-) -> Option<ForeignMaster>
-    ensures { result ≡ next_eligible window at former masters.now }
-{
-    let mut nearest = None;
-    for master in masters {
-        nearest = nearer(nearest, master, window, at, former);
-    }
-    nearest
-}
-
-/// The winner of one pass over the foreign masters that qualify, in rising sender identity
-/// (IEEE 1588-2019, 9.3.2; the order of the pass is the project's).
-pub(crate) fn winner(masters: &[ForeignMaster], window: u64, at: u64) -> Option<Announcement>
+    steps: &mut Steps<L>,
+) -> Pass
     requires { AreNear masters.now }
-    ensures best { (kept : List KeptAnnounce) → MastersRepresent window masters.now kept
-        → IsReached at kept → result ≡ erbest window at kept }
-    ensures near { IfSome result (λ a. a.steps < STEPS_END) }
+    ensures pass { IsPassOver window at masters.now result }
+    ensures near { IfSome result.winner (λ a. a.steps < STEPS_END) }
+    ensures counted { steps.new
+        ≡ steps.old + (length (qualified_of window at masters.now) - 1) }
 {
-    let mut best = None;
-    let mut former = None;
-    while let Some(master) = find_next(masters, window, at, former) {
-        best = better(best, &master.said);
-        former = Some(master.said.sender);
+    let mut pass = no_pass();
+    for master in masters {
+        pass = pass_with(pass, master, window, at, steps);
     }
-    best
+    pass
 }

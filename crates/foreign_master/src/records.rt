@@ -1,22 +1,28 @@
-ghost use Rattle.std.specs.Prelude.{◌≡◌, ◌≢◌, ◌<◌, not, List, [], ◌∷◌, IfOk, IfSome, false, true};
+ghost use Rattle.std.specs.Prelude.{◌≡◌, ◌≢◌, ◌+◌, ◌<◌, ◌≤◌, List, [], ◌∷◌, IfOk, IfSome, true};
 ghost use Rattle.ptp_base.specs.declared.limits.TheConstants.{STEPS_END};
 ghost use Rattle.ptp_profile.specs.declared.foreign_master.KeptAnnounce.{KeptAnnounce};
-ghost use Rattle.ptp_profile.specs.Best.ForeignMasters.{hearing_of, erbest, is_crowded};
+ghost use Rattle.ptp_profile.specs.Best.ForeignMasters.{hearing_of, erbest};
 ghost use Rattle.foreign_master.specs.ForeignMasterTable.{IsReached};
 ghost use Rattle.foreign_master.specs.RecordsView.{RecordsView, RecordsRepresent};
+ghost use Rattle.foreign_master.specs.SettledRecords.{is_settled};
 
-use crate::foreign_master::ForeignMaster;
-use crate::pass::winner;
-use crate::search::{find_left, find_sender};
-use ptp_base::{Announcement, NoMemory, PortId, Room, SENDERS_MAX, STEPS_END};
+use crate::master_table::MasterTable;
+use crate::pass::{Pass, no_pass, pass_over};
+use crate::window::is_within;
+use ds_compare::Steps;
+use ptp_base::{Announcement, NoMemory, PortId, STEPS_END};
 use ptp_profile::Heard;
 use std::alloc::Global;
 use std::marker::Model;
+use std::sync::ledger::Ledger;
 
 /// What one port keeps of the Announces that it hears, foreignMasterDS: at most `SENDERS_MAX` foreign
 /// masters, each with the latest Announce of one sender. A new sender takes the entry of one that has
 /// left the window (IEEE 1588-2019, 9.3.2.4; how many there are is the project's). Only `new`
 /// allocates.
+///
+/// They are passed over once for each Announce that is kept. What the pass finds stands until one
+/// of those that qualify leaves the window: nothing else changes the qualified set.
 ///
 /// Contracts tell what it keeps by the whole list of the Announces that were kept since the last
 /// reset, the newest first. Whoever calls must not let moments fall: of a moment below that of an
@@ -25,17 +31,26 @@ use std::marker::Model;
 pub struct Records {
     receiver: PortId,
     window: u64,
-    masters: Room<ForeignMaster>,
+    /// When the last kept Announce came, in ticks (ns).
+    heard: u64,
+    masters: MasterTable,
+    /// The pass at that moment.
+    pass: Pass,
 }
 
 impl Model for Records {
-    ghost use Rattle.foreign_master.specs.RecordsView.{RecordsView, IsSound};
+    ghost use Rattle.foreign_master.specs.RecordsView.{RecordsView, AreSound};
 
     ghost Value = { RecordsView };
 
-    ghost view = { λ r. record { receiver = r.receiver; window = r.window; masters = r.masters.items } };
+    ghost view = { λ r. record {
+      receiver = r.receiver;
+      window = r.window;
+      heard = r.heard;
+      masters = r.masters;
+    } };
 
-    ghost invariant = { λ r. IsSound r.masters.items r.masters.spare };
+    ghost invariant = { λ r. AreSound r.window r.heard r.masters r.pass };
 }
 
 impl Records {
@@ -50,58 +65,17 @@ impl Records {
         Ok(Records {
             receiver,
             window,
-            masters: Room::with(alloc, SENDERS_MAX)?,
+            heard: 0,
+            masters: MasterTable::with(alloc)?,
+            pass: no_pass(),
         })
     }
 
-    /// Adds an Announce that came at `at`, in ticks, unless it is crowded out. A known sender keeps
-    /// its foreign master, so that its Announce before this one counts on. A new sender takes a free
-    /// entry, or that of one that has left the window.
-    fn add_foreign_master(&mut self, a: Announcement, at: u64) -> bool
-        requires { a.steps < STEPS_END }
-        ensures same { result ≡ false → self.new ≡ self.old }
-        ensures crowded { (kept : List KeptAnnounce) → RecordsRepresent self.old kept
-            → IsReached at kept → result ≡ not (is_crowded self.old.window at kept a.sender) }
-        ensures taken { (kept : List KeptAnnounce) → RecordsRepresent self.old kept
-            → IsReached at kept → result ≡ true
-            → RecordsRepresent self.new (record { at = at; said = a } ∷ kept) }
-        ensures window { self.new.window ≡ self.old.window }
-        ensures receiver { self.new.receiver ≡ self.old.receiver }
-    {
-        let masters = self.masters.items();
-        if let Some(known) = find_sender(masters, a.sender) {
-            let before = Some(masters[known].last);
-            self.masters.set(
-                known,
-                ForeignMaster {
-                    said: a,
-                    last: at,
-                    before,
-                },
-            );
-            return true;
-        }
-        let new = ForeignMaster {
-            said: a,
-            last: at,
-            before: None,
-        };
-        if masters.len() < SENDERS_MAX {
-            self.masters.push(new);
-            return true;
-        }
-        match find_left(masters, self.window, at) {
-            Some(left) => {
-                self.masters.set(left, new);
-                true
-            }
-            None => false,
-        }
-    }
-
     /// Hears an Announce at `at`, in ticks, and says what becomes of it
-    /// (IEEE 1588-2019, 9.3.2.5; `Crowded` is the project's). Unless it is kept, nothing changes.
-    pub fn hear(&mut self, a: Announcement, at: u64) -> Heard
+    /// (IEEE 1588-2019, 9.3.2.5; `Crowded` is the project's). Unless it is kept, nothing changes,
+    /// and nothing is compared. For one that is kept the foreign masters are passed over once, with
+    /// fewer than `SENDERS_MAX` comparisons. Does not allocate.
+    pub fn hear<L: Ledger>(&mut self, a: Announcement, at: u64, steps: &mut Steps<L>) -> Heard
         requires { a.receiver ≡ self.old.receiver }
         ensures answer { (kept : List KeptAnnounce) → RecordsRepresent self.old kept
             → IsReached at kept → result ≡ hearing_of self.old.window at kept a }
@@ -111,6 +85,8 @@ impl Records {
         ensures same { result ≢ Heard.Kept → self.new ≡ self.old }
         ensures window { self.new.window ≡ self.old.window }
         ensures receiver { self.new.receiver ≡ self.old.receiver }
+        ensures uncounted { result ≢ Heard.Kept → steps.new ≡ steps.old }
+        ensures counted { steps.new ≤ steps.old + 15 }
     {
         if a.sender.clock == self.receiver.clock {
             return Heard::Own;
@@ -121,21 +97,33 @@ impl Records {
         if a.alternate {
             return Heard::Alternate;
         }
-        if self.add_foreign_master(a, at) {
-            Heard::Kept
-        } else {
-            Heard::Crowded
+        if !self.masters.take(a, at, self.window) {
+            return Heard::Crowded;
         }
+        self.heard = at;
+        self.pass = pass_over(self.masters.items(), self.window, at, steps);
+        Heard::Kept
     }
 
     /// The best announcement at `at`, in ticks, or None where no sender is qualified: Erbest
-    /// (IEEE 1588-2019, 9.3.2; the order of the pass is the project's). It is of fewer than `STEPS_END` steps.
-    pub fn best(&self, at: u64) -> Option<Announcement>
+    /// (IEEE 1588-2019, 9.3.2; the order of the pass is the project's). It is of fewer than
+    /// `STEPS_END` steps. Nothing is compared while those that qualify are those of the moment of
+    /// the last kept Announce, nor where none qualifies; else there are fewer than `SENDERS_MAX`
+    /// comparisons. Does not allocate.
+    pub fn best<L: Ledger>(&self, at: u64, steps: &mut Steps<L>) -> Option<Announcement>
         ensures best { (kept : List KeptAnnounce) → RecordsRepresent self.now kept
             → IsReached at kept → result ≡ erbest self.now.window at kept }
         ensures near { IfSome result (λ a. a.steps < STEPS_END) }
+        ensures settled { (kept : List KeptAnnounce) → RecordsRepresent self.now kept
+            → IsReached at kept → is_settled self.now.window at kept ≡ true
+            → steps.new ≡ steps.old }
+        ensures counted { steps.new ≤ steps.old + 15 }
     {
-        winner(self.masters.items(), self.window, at)
+        let masters = self.masters.items();
+        if is_within(self.pass.oldest, self.window, at) {
+            return self.pass.winner;
+        }
+        pass_over(masters, self.window, at, steps).winner
     }
 
     /// The port that hears. Does not allocate.
@@ -152,5 +140,7 @@ impl Records {
         ensures receiver { self.new.receiver ≡ self.old.receiver }
     {
         self.masters.clear();
+        self.heard = 0;
+        self.pass = no_pass();
     }
 }

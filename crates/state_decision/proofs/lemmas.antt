@@ -1,1 +1,3 @@
 pub mod PortCodeLemmas
+pub mod PassWinnersLemmas
+pub mod DeciderLemmas

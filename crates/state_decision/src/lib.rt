@@ -4,10 +4,13 @@
 
 mod best;
 mod code;
+mod decider;
 mod decision;
+mod passes;
 
-pub use best::ebest;
-pub use decision::{codes_with, decide_all};
+pub use decider::Decider;
+pub use decision::decide_all;
+pub use ds_compare::Steps;
 pub use ptp_base::Code;
 pub use ptp_profile::PortBest;
 

@@ -1,5 +1,14 @@
+ghost use Rattle.std.specs.Prelude.{◌≡◌, ◌<◌, ◌≤◌, ◌+◌, length, replicate, slice_set};
+ghost use Rattle.state_decision.specs.DeciderView.{unset};
+ghost use Rattle.state_decision.specs.declared.tests.TheConstants.{FIRST};
+
 use crate::*;
+use ds_compare::Steps;
 use ptp_base::{Announcement, ClockId, PortId, PortState, Quality, TimeProps};
+use std::alloc::Global;
+use std::marker::Brand;
+use std::sync::ledger::{Blank, Ledger};
+use std::test::Fail;
 
 const OWN: u64 = 0x0200_00ff_fe00_0001;
 
@@ -65,51 +74,198 @@ fn silent(state: PortState) -> PortBest {
     PortBest { state, best: None }
 }
 
+/// The codes of two ports, decided for all at once.
+fn at_once<L: Ledger>(own: &Announcement, ports: &[PortBest; 2], blank: Blank) -> [Code; 2]
+    requires name { blank.name ≡ L.name }
+    requires parts { blank.parts ≡ L.parts }
+    requires some { 0 < blank.parts }
+{
+    let mut out = [Code::Stay; 2];
+    decide_all(own, ports, &mut out, &mut Steps::<L>::start(blank));
+    out
+}
+
+/// The codes of two ports, set one after another to what they heard before, and then to these.
+fn one_by_one<L: Ledger>(
+    alloc: Global,
+    own: &Announcement,
+    ports: &[PortBest; 2],
+    blank: Blank,
+) -> Result<[Code; 2], Fail>
+    requires name { blank.name ≡ L.name }
+    requires parts { blank.parts ≡ L.parts }
+    requires some { 0 < blank.parts }
+{
+    let mut steps = Steps::<L>::start(blank);
+    let mut decider = match Decider::new(alloc, *own, 2) {
+        Ok(decider) => decider,
+        Err(_) => return Err("new".into()),
+    };
+    let sets = [
+        (1, silent(PortState::Master)),
+        (2, ports[0]),
+        (2, ports[1]),
+        (1, ports[0]),
+    ];
+    let mut out = [Code::Stay; 2];
+    decider.run(&sets, &mut out, &mut steps);
+    Ok(out)
+}
+
 #[test]
-fn two_ports_hear_one_grandmaster(rt: HostRuntime) {
+fn each_port_has_its_code(rt: HostRuntime) -> Result<(), Fail> {
     let first = hears(1, 128, 1, port(MASTER, 1));
-    for (second, codes) in [
-        (hears(2, 128, 1, port(MASTER, 2)), [Code::S1, Code::P2]),
-        // The sender is below the own identity, and then above it.
+    let better = hears(1, 100, 0, port(MASTER, 1));
+    let silent_master = silent(PortState::Master);
+    let slave = silent(PortState::Slave);
+    for (name, class, ports, codes) in [
         (
-            hears(2, 128, 2, port(0x000a_00ff_fe00_0009, 1)),
+            "one sender",
+            248,
+            [first, hears(2, 128, 1, port(MASTER, 2))],
             [Code::S1, Code::P2],
         ),
         (
-            hears(2, 128, 2, port(0xff00_00ff_fe00_0009, 1)),
+            "a sender below the own identity",
+            248,
+            [first, hears(2, 128, 2, port(0x000a_00ff_fe00_0009, 1))],
+            [Code::S1, Code::P2],
+        ),
+        (
+            "a sender above the own identity",
+            248,
+            [first, hears(2, 128, 2, port(0xff00_00ff_fe00_0009, 1))],
             [Code::S1, Code::M3],
         ),
-        (silent(PortState::Master), [Code::S1, Code::M3]),
-        (silent(PortState::Listening), [Code::S1, Code::Stay]),
+        ("none", 248, [first, silent_master], [Code::S1, Code::M3]),
+        (
+            "none yet",
+            248,
+            [first, silent(PortState::Listening)],
+            [Code::S1, Code::Stay],
+        ),
+        ("nothing", 248, [slave, slave], [Code::M2, Code::M2]),
+        (
+            "class 127",
+            127,
+            [better, silent_master],
+            [Code::P1, Code::M1],
+        ),
+        (
+            "class 128",
+            128,
+            [better, silent_master],
+            [Code::S1, Code::M3],
+        ),
     ] {
-        let mut out = [Code::Stay; 2];
-        decide_all(&own(248), &[first, second], &mut out);
-        assert_eq!(rt; out, codes);
+        let own = own(class);
+        assert_eq!(rt;
+            at_once::<Brand>(&own, &ports, Blank::new(1)),
+            codes,
+            "{name}"
+        );
+        let kept = one_by_one::<Brand>(rt.alloc(), &own, &ports, Blank::new(1))?;
+        assert_eq!(rt; kept, codes, "{name}, one by one");
     }
+    Ok(())
+}
+
+/// What port 1 of the clock hears of a grandmaster, which announces itself.
+const FIRST: PortBest = PortBest {
+    state: PortState::Listening,
+    best: Some(Announcement {
+        grandmaster: ClockId { id: MASTER },
+        quality: Quality {
+            priority1: 128,
+            class: 6,
+            accuracy: 0x21,
+            variance: 0x4e5d,
+            priority2: 128,
+        },
+        steps: 0,
+        sender: PortId {
+            clock: ClockId { id: MASTER },
+            port: 1,
+        },
+        receiver: PortId {
+            clock: ClockId { id: OWN },
+            port: 1,
+        },
+        time: TimeProps {
+            utc_offset: 37,
+            flags: 8,
+            source: 0x20,
+        },
+        alternate: false,
+    }),
+};
+
+/// What port 2 hears of it, by the grandmaster's port 2.
+const SECOND: PortBest = PortBest {
+    state: PortState::Listening,
+    best: Some(Announcement {
+        grandmaster: ClockId { id: MASTER },
+        quality: Quality {
+            priority1: 128,
+            class: 6,
+            accuracy: 0x21,
+            variance: 0x4e5d,
+            priority2: 128,
+        },
+        steps: 0,
+        sender: PortId {
+            clock: ClockId { id: MASTER },
+            port: 2,
+        },
+        receiver: PortId {
+            clock: ClockId { id: OWN },
+            port: 2,
+        },
+        time: TimeProps {
+            utc_offset: 37,
+            flags: 8,
+            source: 0x20,
+        },
+        alternate: false,
+    }),
+};
+
+/// Where port 1 of 32 hears a grandmaster, port 2 hears it too, which costs three comparisons, and
+/// port 1 hears it again, which costs none.
+fn hear_again<L: Ledger>(decider: &mut Decider, steps: &mut Steps<L>)
+    requires { decider.old.bests ≡ slice_set (replicate 32 unset) 0 FIRST }
+    ensures counted { steps.new ≤ steps.old + 3 }
+    ensures length { length decider.new.bests ≡ 32 }
+{
+    decider.set(2, SECOND, steps);
+    decider.set(1, FIRST, steps);
+}
+
+/// The codes of 32 ports after that.
+fn heard_by_two<L: Ledger>(alloc: Global, blank: Blank) -> Result<[Code; 32], Fail>
+    requires name { blank.name ≡ L.name }
+    requires parts { blank.parts ≡ L.parts }
+    requires some { 0 < blank.parts }
+{
+    let mut steps = Steps::<L>::start(blank);
+    let mut decider = match Decider::new(alloc, own(248), 32) {
+        Ok(decider) => decider,
+        Err(_) => return Err("new".into()),
+    };
+    decider.set(1, FIRST, &mut steps);
+    hear_again(&mut decider, &mut steps);
+    let mut out = [Code::M1; 32];
+    decider.codes(&mut out, &mut steps);
+    Ok(out)
 }
 
 #[test]
-fn the_own_class_decides(rt: HostRuntime) {
-    let heard = hears(1, 100, 0, port(MASTER, 1));
-    for (class, codes) in [(127, [Code::P1, Code::M1]), (128, [Code::S1, Code::M3])] {
-        let mut out = [Code::Stay; 2];
-        decide_all(&own(class), &[heard, silent(PortState::Master)], &mut out);
-        assert_eq!(rt; out, codes, "class {class}");
+fn a_second_path_is_passive(rt: HostRuntime) -> Result<(), Fail> {
+    let codes = heard_by_two::<Brand>(rt.alloc(), Blank::new(1))?;
+    assert_eq!(rt; codes[0], Code::S1);
+    assert_eq!(rt; codes[1], Code::P2);
+    for code in &codes[2..] {
+        assert_eq!(rt; *code, Code::Stay);
     }
-    let mut alone = [Code::Stay];
-    decide_all(&own(248), &[silent(PortState::Slave)], &mut alone);
-    assert_eq!(rt; alone, [Code::M2]);
-}
-
-#[test]
-fn a_given_best_decides(rt: HostRuntime) {
-    let ports = [hears(1, 128, 1, port(MASTER, 1)), silent(PortState::Master)];
-    for (best, codes) in [
-        (ebest(&ports), [Code::S1, Code::M3]),
-        (None, [Code::M2, Code::M2]),
-    ] {
-        let mut out = [Code::Stay; 2];
-        codes_with(&own(248), &best, &ports, &mut out);
-        assert_eq!(rt; out, codes);
-    }
+    Ok(())
 }

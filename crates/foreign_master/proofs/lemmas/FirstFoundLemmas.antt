@@ -28,6 +28,10 @@ past_all p xs e =
       | false ↦ λ test found. ltb-false _ _ test
     ] refl e
 
+-- where none is found, that is where the list ends
+pub end_of : {X : Type 0} (p : X → Bool) (xs : List X) → None ≡ position p xs → length xs ≡ position_or_len p xs
+end_of p xs e = omega (arith, past_all p xs e, prefix_len-le-length (λ x. not (p x)) xs)
+
 pub passes_there : {X : Type 0} (p : X → Bool) (xs : List X) (n : ℕ) (d : X) → Some n ≡ position p xs → p (get_or xs n d) ≡ true
 passes_there p xs n d e =
     let there = first_of p xs n e in

@@ -1,31 +1,16 @@
 -- What a foreign master says of the kept Announces, after one more.
 use Rattle.std.proofs.Common.{◌≡◌, ℕ, ◌+◌, ◌≤◌, Bool, true, false, cond, ◌&&◌, leb, ltb, List, [], ◌∷◌, Option, Some, None, refl, ap, subst, ◌∙◌, arith}
 use Rattle.std.specs.List.{find}
-use Rattle.std.proofs.lemmas.Bool.{and_parts, eqb-true, le-ltb, ltb-false, le-leb, leb-false}
+use Rattle.std.proofs.lemmas.Bool.{le-ltb, ltb-false, le-leb, leb-false}
 use Rattle.std.proofs.lemmas.Bool.Decides.{nat_tests}
 use Rattle.std.proofs.lemmas.List.Sums.{sum_by-cons}
 use Rattle.std.proofs.lemmas.List.Elements.{All-head, All-tail}
 use Rattle.std.proofs.lemmas.Option.{same_Some}
 use Rattle.ptp_base.specs.declared.identity.PortId.{PortId}
 use Rattle.ptp_profile.specs.declared.foreign_master.KeptAnnounce.{KeptAnnounce}
-use Rattle.ptp_profile.specs.Best.PortIdentity.{is_same_port}
 use Rattle.ptp_profile.specs.Best.ForeignMasters.{is_from, is_in_window, count_from}
 use Rattle.foreign_master.specs.declared.foreign_master.ForeignMaster.{ForeignMaster}
 use Rattle.foreign_master.specs.ForeignMasterTable.{is_present, IsReached, IsMasterOf, MasterRepresents, next_master}
-
--- equal identities are one
-pub same_from_is_same_port : (p q : PortId) → is_same_port p q ≡ true → p ≡ q
-same_from_is_same_port p q h =
-    let both = and_parts _ _ h in
-    let clock = eqb-true _ _ both.0 in
-    let port = eqb-true _ _ both.1 in
-    λ i. record { clock = record { id = clock i }; port = port i }
-
-pub is_same_port-refl : (p : PortId) → is_same_port p p ≡ true
-is_same_port-refl p = grind (arith, nat_tests)
-
-pub is_same_port-symm : (p q : PortId) → is_same_port p q ≡ is_same_port q p
-is_same_port-symm p q = grind (arith, nat_tests)
 
 -- one more of another sender
 pub count_from-other : (w m : ℕ) (s : PortId) (h : KeptAnnounce) (kept : List KeptAnnounce) → is_from s h ≡ false → count_from w m s (h ∷ kept) ≡ count_from w m s kept

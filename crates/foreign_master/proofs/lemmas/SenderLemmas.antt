@@ -1,20 +1,17 @@
 -- The senders of the kept Announces, and those of the masters.
-use Rattle.std.proofs.Common.{◌≡◌, ℕ, ◌+◌, ◌<◌, ◌≤◌, Bool, true, false, cond, ◌&&◌, ◌||◌, eqb, leb, List, [], ◌∷◌, length, get_or, map, Option, Some, None, refl, sym, ap, subst, ◌∙◌, arith, ⊎_elim, zero, suc}
-use Rattle.std.specs.Cmp.{IsTotalOrder}
-use Rattle.std.specs.Ordering.{nat_cmp, eq_by_cmp, is_eq, ordering_reverse, ordering_then}
-use Rattle.std.specs.declared.cmp.Ordering.{Ordering}
+use Rattle.std.proofs.Common.{◌≡◌, ℕ, ◌+◌, ◌<◌, ◌≤◌, Bool, true, false, cond, ◌&&◌, ◌||◌, leb, List, [], ◌∷◌, length, get_or, map, Option, Some, None, refl, sym, ap, subst, ◌∙◌, arith, ⊎_elim, zero, suc}
+use Rattle.std.specs.Ordering.{ordering_reverse}
 use Rattle.std.specs.declared.cmp.Ordering.TheVariants.{Less, Equal, Greater}
 use Rattle.std.specs.List.{find, filter, count_by, IsDistinct, AllByRecursion}
 use Rattle.std.specs.List.Sorted.{IsStrictlySortedBy}
 use Rattle.std.specs.Set.{is_member}
-use Rattle.std.proofs.lemmas.Cmp.{on_total, then_total, nat_cmp_total, eq_by_cmp_equiv}
+use Rattle.std.proofs.lemmas.Cmp.{eq_by_cmp_equiv}
 use Rattle.std.proofs.lemmas.Map.Keys.{IsDistinct-from_sorted}
 use Rattle.std.proofs.lemmas.Map.Made.{length-from_same_keys, is_member-filter}
 use Rattle.std.proofs.lemmas.List.Kept.{IsStrictlySortedBy-filter}
 use Rattle.std.proofs.lemmas.List.{length-map}
 use Rattle.std.proofs.lemmas.List.Sums.{length-filter, count_by-le-length, sum_by-cons}
 use Rattle.std.proofs.lemmas.Bool.{cases_Bool, leb-true, and_right, and_left, le-leb, lt-leb, eqb-true, eq-eqb, false_from_ne_true, and_from}
-use Rattle.std.proofs.lemmas.Bool.Decides.{nat_tests}
 use Rattle.ptp_base.specs.declared.limits.TheConstants.{SENDERS_MAX}
 use Rattle.ptp_base.specs.declared.identity.PortId.{PortId}
 use Rattle.ptp_profile.specs.declared.foreign_master.KeptAnnounce.{KeptAnnounce}
@@ -22,34 +19,13 @@ use Rattle.ptp_profile.specs.Best.PortIdentity.{is_same_port, port_cmp}
 use Rattle.ptp_profile.specs.Best.ForeignMasters.{is_from, count_from, with_sender_by, with_sender, senders, present}
 use Rattle.ptp_profile.specs.Best.ForeignMasters.{is_crowded}
 use Rattle.foreign_master.specs.declared.foreign_master.ForeignMaster.{ForeignMaster}
-use Rattle.foreign_master.specs.ForeignMasterTable.{is_of, master_of, is_present, IsReached, MasterRepresents, AreApart, MastersRepresent}
-use Rattle.foreign_master.proofs.lemmas.ForeignMasterTableLemmas.{same_from_is_same_port, is_same_port-refl, is_same_port-symm, count_from-other}
-
-pub port_cmp_total : IsTotalOrder port_cmp
-port_cmp_total = then_total (on_total (λ (p : PortId). p.clock.id) nat_cmp_total) (on_total (λ (p : PortId). p.port) nat_cmp_total)
-
-abbrev pub ties : PortId → PortId → Bool
-ties = eq_by_cmp port_cmp
-
-cmp_is_eq : (a b : ℕ) → is_eq (nat_cmp a b) ≡ eqb a b
-cmp_is_eq a b = grind (arith, nat_tests)
-
-then_is_eq : (x y : Ordering) → is_eq (ordering_then x y) ≡ (is_eq x && is_eq y)
-then_is_eq Less y = refl
-then_is_eq Equal y = refl
-then_is_eq Greater y = refl
-
-pub ties_is : (p q : PortId) → ties p q ≡ is_same_port p q
-ties_is p q = then_is_eq (nat_cmp p.clock.id q.clock.id) (nat_cmp p.port q.port) ∙ ap (λ x. x && is_eq (nat_cmp p.port q.port)) (cmp_is_eq p.clock.id q.clock.id) ∙ ap (λ x. (eqb p.clock.id q.clock.id) && x) (cmp_is_eq p.port q.port)
-
-pub same_from_equal : (p q : PortId) → port_cmp p q ≡ Equal → p ≡ q
-same_from_equal p q e = same_from_is_same_port p q (sym (ties_is p q) ∙ ap is_eq e)
+use Rattle.foreign_master.specs.ForeignMasterTable.{is_of, master_of, is_present, IsReached, MasterRepresents}
+use Rattle.foreign_master.proofs.lemmas.PortOrderLemmas.{same_from_is_same_port, is_same_port-refl, is_same_port-symm, port_cmp_total, ties, ties_is, same_from_equal, all_below}
+use Rattle.foreign_master.proofs.lemmas.ForeignMasterTableLemmas.{count_from-other}
+use Rattle.foreign_master.proofs.lemmas.RisingLemmas.{AreApart}
+use Rattle.foreign_master.proofs.lemmas.RecordsViewLemmas.{Keeps}
 
 -- ---- one more sender
-all_below : (s t : PortId) (ts : List PortId) → port_cmp s t ≡ Less → AllByRecursion (λ y. port_cmp t y ≡ Less) ts → AllByRecursion (λ y. port_cmp s y ≡ Less) ts
-all_below s t [] lt all = tt
-all_below s t (x ∷ ts) lt all = (port_cmp_total.trans s t x lt all.0, all_below s t ts lt all.1)
-
 below_with : (t s : PortId) (ts : List PortId) → port_cmp t s ≡ Less → AllByRecursion (λ y. port_cmp t y ≡ Less) ts → AllByRecursion (λ y. port_cmp t y ≡ Less) (with_sender s ts)
 below_with t s [] lt all = (lt, tt)
 below_with t s (x ∷ ts) lt all =
@@ -200,7 +176,7 @@ is_member-present w m kept q =
     ∙ and_known (is_member ties (senders kept) q) (leb 1 (count_from w m q kept)) (counted w m q 0 kept)
 
 -- as many masters are in the window as senders
-pub length-present : (w m : ℕ) (kept : List KeptAnnounce) (xs : List ForeignMaster) → MastersRepresent w xs kept → IsReached m kept → length (present w m kept) ≡ count_by (is_present w m) xs
+pub length-present : (w m : ℕ) (kept : List KeptAnnounce) (xs : List ForeignMaster) → Keeps w xs kept → IsReached m kept → length (present w m kept) ≡ count_by (is_present w m) xs
 length-present w m kept xs keeps reached =
     length-from_same_keys (eq_by_cmp_equiv port_cmp_total) (present w m kept) (present_in w m xs)
     (IsDistinct-from_sorted port_cmp _ (IsStrictlySortedBy-filter port_cmp (λ (s : PortId). leb 1 (count_from w m s kept)) (senders kept) (sorted-senders kept)))
@@ -229,11 +205,11 @@ count_all p (x ∷ xs) all =
     omega (arith, e, z, count_all p xs (λ k d l. all (suc k) d (omega arith)))
 
 -- fewer than SENDERS_MAX masters are in the window
-pub not_crowded_few : (w m : ℕ) (kept : List KeptAnnounce) (xs : List ForeignMaster) (s : PortId) → MastersRepresent w xs kept → IsReached m kept → count_by (is_present w m) xs < SENDERS_MAX → is_crowded w m kept s ≡ false
+pub not_crowded_few : (w m : ℕ) (kept : List KeptAnnounce) (xs : List ForeignMaster) (s : PortId) → Keeps w xs kept → IsReached m kept → count_by (is_present w m) xs < SENDERS_MAX → is_crowded w m kept s ≡ false
 not_crowded_few w m kept xs s keeps reached few =
     and_right _ _ (lt-leb SENDERS_MAX _ (subst (λ n. n < SENDERS_MAX) (sym (length-present w m kept xs keeps reached)) few))
 
-pub not_crowded_own : (w m : ℕ) (kept : List KeptAnnounce) (xs : List ForeignMaster) (s : PortId) (i : ℕ) (d : ForeignMaster) → MastersRepresent w xs kept → IsReached m kept → i < length xs → master_of s xs ≡ Some (get_or xs i d) → is_crowded w m kept s ≡ false
+pub not_crowded_own : (w m : ℕ) (kept : List KeptAnnounce) (xs : List ForeignMaster) (s : PortId) (i : ℕ) (d : ForeignMaster) → Keeps w xs kept → IsReached m kept → i < length xs → master_of s xs ≡ Some (get_or xs i d) → is_crowded w m kept s ≡ false
 not_crowded_own w m kept xs s i d keeps reached l found =
     let t = subst (MasterRepresents w m kept s) found (keeps.tells s m reached) in
     ⊎_elim
@@ -246,7 +222,7 @@ not_crowded_own w m kept xs s i d keeps reached l found =
     not_crowded_few w m kept xs s keeps reached (let lt = count_lt (is_present w m) xs i d l left in let few = keeps.few in omega arith))
     (cases_Bool (is_present w m (get_or xs i d)))
 
-pub crowded_full : (w m : ℕ) (kept : List KeptAnnounce) (xs : List ForeignMaster) (s : PortId) → MastersRepresent w xs kept → IsReached m kept → master_of s xs ≡ None → SENDERS_MAX ≤ length xs → ((k : ℕ) (d : ForeignMaster) → k < length xs → is_present w m (get_or xs k d) ≡ true) → is_crowded w m kept s ≡ true
+pub crowded_full : (w m : ℕ) (kept : List KeptAnnounce) (xs : List ForeignMaster) (s : PortId) → Keeps w xs kept → IsReached m kept → master_of s xs ≡ None → SENDERS_MAX ≤ length xs → ((k : ℕ) (d : ForeignMaster) → k < length xs → is_present w m (get_or xs k d) ≡ true) → is_crowded w m kept s ≡ true
 crowded_full w m kept xs s keeps reached none many all =
     let n = length-present w m kept xs keeps reached in
     let c = count_all (is_present w m) xs all in
