@@ -1,3 +1,11 @@
+pub mod HeardRecordLemmas
+pub mod JoinedWordLemmas
+pub mod MadeLengthLemmas
 pub mod MadeNumberLemmas
+pub mod MadeTakenLemmas
 pub mod MadeTextLemmas
 pub mod MadeTickLemmas
+pub mod NumeralWordLemmas
+pub mod RecordTakenLemmas
+pub mod SectionTakenLemmas
+pub mod TakenTextLemmas

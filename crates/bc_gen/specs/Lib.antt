@@ -1,3 +1,4 @@
 pub mod MadeNumbers
 pub mod MadeRecords
+pub mod MadeScenario
 pub mod MadeText

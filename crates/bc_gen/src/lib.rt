@@ -8,8 +8,10 @@ mod numbers;
 mod records;
 mod scenario_text;
 
-pub use examples::{the_first_scenario_is_drawn, the_own_clock_is_the_default};
-pub use laws::{records_are_of_three_types, records_rise};
+pub use examples::{
+    the_first_scenario_is_drawn, the_first_scenario_is_told, the_own_clock_is_the_default,
+};
+pub use laws::{records_are_of_three_types, records_rise, texts_stand_for_scenarios};
 pub use scenario_text::text;
 
 #[cfg(test)]
