@@ -15,26 +15,25 @@ pub struct Timers {
     announce: Option<u64>,
     sync: Option<u64>,
     delay: Option<u64>,
+    /// The one that is due first, so that who asks at each turn compares nothing.
+    first: Option<(u64, Timer)>,
 }
 
 impl Model for Timers {
-    ghost use Rattle.ptp_profile.specs.Port.PortTimers.{Timers};
+    ghost use Rattle.std.specs.Prelude.{◌≡◌};
+    ghost use Rattle.std.proofs.Common.{sym};
+    ghost use Rattle.ptp_profile.specs.Port.PortTimers.{Timers, due_of};
 
     ghost Value = { Timers };
 
     ghost view = { λ t. record { receipt = t.receipt; qualification = t.qualification; announce = t.announce; sync = t.sync; delay = t.delay } };
 
-    ghost inverse = { λ t. record { receipt = t.receipt; qualification = t.qualification; announce = t.announce; sync = t.sync; delay = t.delay } };
-}
+    ghost invariant = { λ t. t.first ≡ due_of (record { receipt = t.receipt; qualification = t.qualification; announce = t.announce; sync = t.sync; delay = t.delay }) };
 
-/// All timers, in the order in which they go at one moment (project).
-const ALL: [Timer; 5] = [
-    Timer::AnnounceReceipt,
-    Timer::Qualification,
-    Timer::AnnounceSend,
-    Timer::SyncSend,
-    Timer::DelayRequest,
-];
+    ghost inverse = { λ t. record { receipt = t.receipt; qualification = t.qualification; announce = t.announce; sync = t.sync; delay = t.delay; first = due_of t } };
+
+    ghost inverse_ok = { λ t h i. record { receipt = t.receipt; qualification = t.qualification; announce = t.announce; sync = t.sync; delay = t.delay; first = sym h i } };
+}
 
 /// The one that is due first: a later one of the order only where its moment is less.
 fn lesser(first: Option<(u64, Timer)>, later: (u64, Timer)) -> Option<(u64, Timer)>
@@ -44,6 +43,41 @@ fn lesser(first: Option<(u64, Timer)>, later: (u64, Timer)) -> Option<(u64, Time
         Some(due) if due.0 <= later.0 => Some(due),
         _ => Some(later),
     }
+}
+
+/// The one that is due first, with a later one of the order, which is set or not.
+fn with_later(first: Option<(u64, Timer)>, t: Timer, at: Option<u64>) -> Option<(u64, Timer)>
+    ensures set { IfSome at
+        (λ moment. result ≡ lesser (λ (due : ℕ × Timer). due.0) first (moment, t)) }
+    ensures cleared { at ≡ None → result ≡ first }
+{
+    match at {
+        Some(moment) => lesser(first, (moment, t)),
+        None => first,
+    }
+}
+
+/// The one that is due first of all, in the order in which they go at one moment (project).
+fn first_of(
+    receipt: Option<u64>,
+    qualification: Option<u64>,
+    announce: Option<u64>,
+    sync: Option<u64>,
+    delay: Option<u64>,
+) -> Option<(u64, Timer)>
+    ensures { result ≡ due_of (record {
+      receipt = receipt;
+      qualification = qualification;
+      announce = announce;
+      sync = sync;
+      delay = delay;
+    }) }
+{
+    let first = with_later(None, Timer::AnnounceReceipt, receipt);
+    let first = with_later(first, Timer::Qualification, qualification);
+    let first = with_later(first, Timer::AnnounceSend, announce);
+    let first = with_later(first, Timer::SyncSend, sync);
+    with_later(first, Timer::DelayRequest, delay)
 }
 
 impl Timers {
@@ -57,6 +91,7 @@ impl Timers {
             announce: None,
             sync: None,
             delay: None,
+            first: None,
         }
     }
 
@@ -84,6 +119,13 @@ impl Timers {
             Timer::SyncSend => self.sync = at,
             Timer::DelayRequest => self.delay = at,
         }
+        self.first = first_of(
+            self.receipt,
+            self.qualification,
+            self.announce,
+            self.sync,
+            self.delay,
+        );
     }
 
     /// Sets a timer for the moment `at`, in ticks (ns), in place of the one before.
@@ -109,12 +151,6 @@ impl Timers {
             (λ due. (t : Timer) (at : ℕ) → timer_at self.now t ≡ Some at → due.0 ≤ at) }
         ensures none { result ≡ None ↔ ((t : Timer) → timer_at self.now t ≡ None) }
     {
-        let mut due = None;
-        for timer in ALL {
-            if let Some(at) = self.at(timer) {
-                due = lesser(due, (at, timer));
-            }
-        }
-        due
+        self.first
     }
 }

@@ -1,10 +1,8 @@
 -- The timer that is due first, over all timers.
-use Rattle.std.proofs.Common.{◌≡◌, ◌≤◌, ℕ, Option, Some, None, refl, sym, ap, subst, ◌∙◌, arith, inl, inr, ◌∷◌, add-one}
-use Rattle.std.specs.Prelude.{◌+◌, ◌<◌, List, length, drop, fold, IfSome, filter_map}
+use Rattle.std.proofs.Common.{◌≡◌, ◌≤◌, ℕ, Option, Some, None, refl, sym, ap, subst, ◌∙◌, arith, inl, inr}
+use Rattle.std.specs.Prelude.{List, fold, IfSome, filter_map}
 use Rattle.std.specs.List.{cons_option}
 use Rattle.std.specs.Option.{option_map}
-use Rattle.std.proofs.Common.{get_or}
-use Rattle.std.proofs.Math.Seq.{drop-cons}
 use Rattle.ptp_base.specs.Least.{lesser}
 use Rattle.ptp_profile.specs.declared.port_event.Timer.{Timer}
 use Rattle.ptp_profile.specs.declared.port_event.Timer.TheVariants.{AnnounceReceipt, Qualification, AnnounceSend, SyncSend, DelayRequest}
@@ -16,27 +14,15 @@ abbrev pub moment : ℕ × Timer → ℕ
 moment due = due.0
 
 -- ---- one more timer, which is set or not
-abbrev rest_of : Timers → Option (ℕ × Timer) → List Timer → Option (ℕ × Timer)
-rest_of t first xs = fold (lesser moment) first (filter_map (set_timer t) xs)
+abbrev due_after : Option (ℕ × Timer) → List (ℕ × Timer) → Option (ℕ × Timer)
+due_after first dues = fold (lesser moment) first dues
 
-abbrev after : Option (ℕ × Timer) → Timer → Option ℕ → Option (ℕ × Timer)
-after first x None = first
-after first x (Some at) = lesser moment first (at, x)
-
-one_more : (first : Option (ℕ × Timer)) (x : Timer) (o : Option ℕ) (dues : List (ℕ × Timer))
-    → fold (lesser moment) first (cons_option (option_map (λ at. (at, x)) o) dues) ≡ fold (lesser moment) (after first x o) dues
-one_more first x None dues = refl
-one_more first x (Some at) dues = refl
-
-pub timer_more : (t : Timers) (first next all : Option (ℕ × Timer)) (xs : List Timer) (i : ℕ) (d : Timer) (o : Option ℕ)
-    → i < length xs → timer_at t (get_or xs i d) ≡ o → next ≡ after first (get_or xs i d) o
-    → rest_of t first (drop i xs) ≡ all → rest_of t next (drop (i + 1) xs) ≡ all
-timer_more t first next all xs i d o lt is same before =
-    let x = get_or xs i d in
-    let split : drop i xs ≡ x ∷ drop (i + 1) xs = rw add-one (drop-cons xs i d lt) in
-    ap (λ (n : Option (ℕ × Timer)). rest_of t n (drop (i + 1) xs)) (same ∙ sym (ap (after first x) is))
-    ∙ sym (one_more first x (timer_at t x) (filter_map (set_timer t) (drop (i + 1) xs)))
-    ∙ sym (ap (rest_of t first) split) ∙ before
+-- where `first` is due first so far, the later ones come to what they come to with this one before them
+pub timer_more : (first next all : Option (ℕ × Timer)) (x : Timer) (o : Option ℕ) (dues : List (ℕ × Timer))
+    → IfSome o (λ at. next ≡ lesser moment first (at, x)) → (o ≡ None → next ≡ first)
+    → due_after first (cons_option (option_map (λ at. (at, x)) o) dues) ≡ all → due_after next dues ≡ all
+timer_more first next all x None dues set cleared before = ap (λ (n : Option (ℕ × Timer)). due_after n dues) (cleared refl) ∙ before
+timer_more first next all x (Some at) dues set cleared before = ap (λ (n : Option (ℕ × Timer)). due_after n dues) set ∙ before
 
 -- ---- it is set for its moment
 abbrev pub IsSetAt : Timers → ℕ × Timer → Type 0
