@@ -1,4 +1,5 @@
 pub mod TextLemmas
+pub mod HexDigitLemmas
 pub mod PrintedLineLemmas
 pub mod MarginLemmas
 pub mod ListEndLemmas

@@ -8,6 +8,7 @@ mod effect_lines;
 mod effects;
 mod entry;
 mod formed;
+mod hex_digits;
 mod input;
 mod laws;
 mod line;

@@ -4,7 +4,8 @@ ghost use Rattle.hex.specs.Hex.{encode_lower};
 ghost use Rattle.ptp_profile.specs.Port.PrintedNames.{port_text};
 ghost use Rattle.ptp_management.specs.ManagementQueries.{lines_text, printed_lines, shows};
 
-use pmc_query::{add_hex, add_port, print};
+use crate::hex_digits::append_hex;
+use pmc_query::{add_port, print};
 use ptp_base::{NoMemory, Octets, PortId};
 use std::alloc::Global;
 use std::fmt;
@@ -55,7 +56,7 @@ impl Writer {
     pub fn hex(&mut self, octets: &[u8]) -> Result<(), NoMemory>
         ensures { OnOk result (self.new ≡ self.old ++ encode_lower octets.now) }
     {
-        add_hex(self.alloc, octets, &mut self.text)
+        append_hex(octets, &mut self.text)
     }
 
     /// Adds the identity of a port: that of its clock, and its number.
