@@ -9,3 +9,5 @@ pub mod YieldLemmas
 pub mod ListLemmas
 pub mod MoveLemmas
 pub mod BoundaryClockLemmas
+pub mod DecisionCostLemmas
+pub mod SettingLemmas

@@ -1,5 +1,5 @@
 -- What an entry of a port does to a boundary clock, and what it tells.
-use Rattle.std.specs.Prelude.{◌≡◌, ℕ, ◌≤◌, List, ◌++◌, map, option_map, option_and_then, Option, Some, None, true, false, IsSomeAnd}
+use Rattle.std.specs.Prelude.{◌≡◌, ℕ, ◌≤◌, Bool, List, ◌++◌, map, option_map, option_and_then, Option, Some, None, true, false, IsSomeAnd}
 use Rattle.ptp_base.specs.declared.identity.PortId.{PortId}
 use Rattle.ptp_base.specs.declared.time.TheConstants.{TICK_MAX}
 use Rattle.ptp_profile.specs.declared.port_event.Fate.{Fate}
@@ -60,6 +60,12 @@ core_at e c = at_moment e.input.tick c
 -- ports and data sets once the entry's port took its input
 abbrev pub core_ported : Options → PortEntry → Core → Core
 core_ported o e c = after_port o e (core_at e c)
+
+-- the entry raises a decision
+abbrev pub raises_at : Options → PortEntry → Core → Bool
+raises_at o e c =
+    raises_decision (fate_at o e (core_at e c)) (port_at (core_at e c).ports e.input.number)
+    e.input.tick e.input.what
 
 -- ports and data sets once the decision followed
 abbrev pub core_decided : Options → PortEntry → Core → Core

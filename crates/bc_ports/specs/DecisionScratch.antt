@@ -24,6 +24,7 @@ port_bests m hs = map (λ (h : HubPort). record { state = h.port.state; best = b
 pub record HasRoom (n : ℕ) (s : DecisionScratch) : Type 0 where
   pub bests : n ≤ length s.bests.items + s.bests.spare
   pub codes : s.codes.len ≡ n
+  pub states : n ≤ length s.states.items + s.states.spare
 
 -- what a decision leaves of the data sets: the last measure, and portDS of each port
 pub record OthersStay (old new : DataSets) : Type 0 where

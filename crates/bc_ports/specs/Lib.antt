@@ -3,3 +3,4 @@ pub mod PortYield
 pub mod DecisionScratch
 pub mod ClockYield
 pub mod OpenPorts
+pub mod DecisionCost

@@ -70,6 +70,7 @@ pub record CoreRepresents (o : Options) (n : BoundaryClock) (c : Core) : Type 0 
   pub moment : n.moment ≡ c.moment
   pub clock : IsClockOf o n.sets
   pub master : master_in n.sets ≡ c.master
+  pub own : n.decider.own ≡ local_announcement o
   pub numbers : ArePortsOf o 1 n.ports.items
   pub ports : PortsRepresent o.delay_filter_length n.moment n.ports.items c.ports
 
@@ -95,11 +96,13 @@ pub record ClockRepresents (o : Options) (n : BoundaryClock) (c : Core) (measure
   pub port_sets : n.sets.ports ≡ map port_set c.ports
   pub measure : MeasureRepresents n.sets measured
 
--- what always holds of a clock: at most PORTS_MAX ports, each with its portDS and a place for its
--- decision, and a moment of a scenario
+-- what always holds of a clock: at most PORTS_MAX ports, each with its portDS, its part of the
+-- decision and a place for its state, and a moment of a scenario
 pub record IsSound (n : BoundaryClock) : Type 0 where
   pub few : n.ports.len ≤ PORTS_MAX
   pub early : n.moment ≤ TICK_MAX
   pub sets : length n.sets.ports ≡ n.ports.len
   pub bests : n.ports.len ≤ length n.scratch.bests.items + n.scratch.bests.spare
   pub codes : n.scratch.codes.len ≡ n.ports.len
+  pub states : n.ports.len ≤ length n.scratch.states.items + n.scratch.states.spare
+  pub decided : length n.decider.bests ≡ n.ports.len

@@ -1,5 +1,6 @@
 ghost use Rattle.ptp_base.specs.declared.time.TheConstants.{TICK_MAX};
-ghost use Rattle.std.specs.Prelude.{◌≡◌, ℕ, ◌+◌, ◌≤◌, ◌<◌, List, [], map, length, All, fold, Option};
+ghost use Rattle.std.specs.Prelude.{◌≡◌, ℕ, ◌+◌, ◌*◌, ◌≤◌, ◌<◌, List, [], map, length, All, fold, Option};
+ghost use Rattle.ptp_base.specs.declared.limits.TheConstants.{PORTS_MAX};
 ghost use Rattle.ptp_base.specs.declared.identity.PortId.{PortId};
 ghost use Rattle.ptp_base.specs.declared.announcement.Announcement.{Announcement};
 ghost use Rattle.ptp_profile.specs.Best.MasterData.{after_code};
@@ -9,15 +10,24 @@ ghost use Rattle.bc_history.specs.Phases.DecisionPhase.{is_new_parent, with_code
 ghost use Rattle.bc_history.specs.Phases.HubPort.{HubPort as Model};
 ghost use Rattle.bc_history.specs.Phases.OpeningState.{local_announcement};
 ghost use Rattle.bc_ports.specs.Representation.{PortsRepresent, ArePortsOf, IsClockOf};
+ghost use Rattle.ptp_profile.specs.Best.StateDecision.{bests_of};
+ghost use Rattle.bc_ports.specs.DecisionCost.{passing, setting_cost};
 ghost use Rattle.bc_ports.specs.DecisionScratch.{IsNear, OthersStay, port_bests};
 
 use crate::hub_port::HubPort;
 use data_sets::DataSets;
 use ptp_base::{Announcement, Code, PortId, Room};
 use ptp_profile::PortBest;
+use state_decision::{Decider, Steps};
+use std::sync::ledger::Ledger;
 
 /// Adds the state of each port, and its Erbest (IEEE 1588-2019, 9.3.2).
-pub fn push_bests(ports: &[HubPort], moment: u64, out: &mut Room<PortBest>)
+pub fn push_bests<L: Ledger>(
+    ports: &[HubPort],
+    moment: u64,
+    out: &mut Room<PortBest>,
+    steps: &mut Steps<L>,
+)
     requires empty { out.old.items ≡ [] }
     requires room { length ports.now ≤ out.old.spare }
     ensures bests { (n : ℕ) (hs : List Model) → PortsRepresent n moment ports.now hs →
@@ -25,13 +35,29 @@ pub fn push_bests(ports: &[HubPort], moment: u64, out: &mut Room<PortBest>)
     ensures near { All (λ b. IsNear b.best) out.new.items }
     ensures length { length out.new.items ≡ length ports.now }
     ensures spare { length out.old.items + out.old.spare ≤ length out.new.items + out.new.spare }
+    ensures counted { (n : ℕ) (hs : List Model) → PortsRepresent n moment ports.now hs →
+        steps.new ≤ steps.old + 15 * passing moment hs }
 {
     for port in ports {
         let best = PortBest {
             state: port.engine.state(),
-            best: port.best(moment),
+            best: port.best(moment, steps),
         };
         out.push(best);
+    }
+}
+
+/// Sets what each port hears, by rising number. It takes comparisons only where a port hears another
+/// best than at the last decision.
+pub fn set_bests<L: Ledger>(decider: &mut Decider, bests: &[PortBest], steps: &mut Steps<L>)
+    requires same_length { length bests.now ≡ length decider.old.bests }
+    requires few { length bests.now ≤ PORTS_MAX }
+    ensures bests { decider.new ≡ record decider.old { bests = bests.now } }
+    ensures same_bests { bests_of bests.now ≡ bests_of decider.old.bests → steps.new ≡ steps.old }
+    ensures counted { steps.new ≤ steps.old + setting_cost (length bests.now) }
+{
+    for (i, best) in bests.iter().enumerate() {
+        decider.set((i + 1) as u16, *best, steps);
     }
 }
 

@@ -15,3 +15,4 @@ mod scratch;
 pub use bc_history::{EventContext, Moved, PortEntry, PortHappening, PortInput};
 pub use boundary_clock::BoundaryClock;
 pub use event::EventOutcome;
+pub use state_decision::Steps;

@@ -1,4 +1,4 @@
-ghost use Rattle.std.specs.Prelude.{◌≡◌, ℕ, ◌≤◌, List, Option, length, max};
+ghost use Rattle.std.specs.Prelude.{◌≡◌, ℕ, ◌≤◌, List, [], Option, length, max};
 ghost use Rattle.ptp_base.specs.declared.limits.TheConstants.{PORTS_MAX};
 ghost use Rattle.ptp_base.specs.declared.time.TheConstants.{TICK_MAX};
 ghost use Rattle.ptp_profile.specs.declared.timing.Measure.{Measure};
@@ -13,7 +13,8 @@ ghost use Rattle.bc_ports.specs.Representation.{ClockRepresents, CoreRepresents,
 
 use crate::boundary_clock::BoundaryClock;
 use crate::hub_port::HubPort;
-use ptp_base::PortState;
+use crate::moves::push_states;
+use ptp_base::{PortState, Room};
 
 /// Whether a port in this state is in SLAVE.
 fn is_slave(state: PortState) -> bool
@@ -44,6 +45,17 @@ impl BoundaryClock {
             → result ≡ slave_port (states_of c.ports) }
     {
         slave_port(&self.ports)
+    }
+
+    /// Adds the state of each port, by rising number. Does not allocate.
+    pub fn states(&self, out: &mut Room<PortState>)
+        requires empty { out.old.items ≡ [] }
+        requires room { self.now.ports.len ≤ out.old.spare }
+        ensures length { length out.new.items ≡ self.now.ports.len }
+        ensures states { (o : Options) (c : Core) → CoreRepresents o self.now c
+            → out.new.items ≡ states_of c.ports }
+    {
+        push_states(&self.ports, out);
     }
 
     /// Takes the tick of an input that is no port's, in ns, at most `TICK_MAX`: the moment is the

@@ -33,7 +33,7 @@ fn state_between(i: usize, at: usize, between: PortState, old: PortState) -> Por
 
 /// Adds how the ports moved: the port of index `at` at its own event, which left it in the state
 /// `between`, and then each by the decision.
-pub fn push_moves(
+fn push_moves(
     sets: &[PortSet],
     at: usize,
     between: PortState,
@@ -93,7 +93,7 @@ fn with_state(former: PortSet, state: PortState) -> PortSet
 }
 
 /// Takes the states into portDS of each port (IEEE 1588-2019, 8.2.15.3.1).
-pub fn set_states(sets: &mut PortSets, states: &[PortState])
+fn set_states(sets: &mut PortSets, states: &[PortState])
     requires { length states.now ≡ length sets.old }
     ensures { sets.new ≡ with_states sets.old states.now }
 {
@@ -101,4 +101,51 @@ pub fn set_states(sets: &mut PortSets, states: &[PortState])
         let former = set_at(sets, i);
         sets.set(i, with_state(former, states[i]));
     }
+}
+
+/// Where no decision followed: the port of index `at` alone may have moved, to the state `between`.
+/// Adds how it did, and takes the state into its portDS.
+pub fn move_own(sets: &mut PortSets, at: usize, between: PortState, out: &mut Room<Moved>)
+    requires there { at < length sets.old }
+    requires few { length sets.old ≤ PORTS_MAX }
+    requires room { 0 < out.old.spare }
+    ensures moves { out.new.items
+        ≡ out.old.items
+        ++ moves_from 1 (states_in sets.old) (slice_set (states_in sets.old) at between)
+        (slice_set (states_in sets.old) at between) }
+    ensures sets { sets.new
+        ≡ with_states sets.old (slice_set (states_in sets.old) at between) }
+{
+    let former = set_at(sets, at);
+    push_moved(at as u16 + 1, former.state, between, out);
+    sets.set(at, with_state(former, between));
+}
+
+/// Where a decision followed: each port may have moved, that of index `at` to the state `between`
+/// before. Adds how they did, and takes the states, for which `states` has places, into portDS.
+pub fn move_all(
+    ports: &[HubPort],
+    sets: &mut PortSets,
+    at: usize,
+    between: PortState,
+    states: &mut Room<PortState>,
+    out: &mut Room<Moved>,
+)
+    requires same { length sets.old ≡ length ports.now }
+    requires few { length sets.old ≤ PORTS_MAX }
+    requires places { length ports.now ≤ length states.old.items + states.old.spare }
+    requires room { 2 * length sets.old ≤ out.old.spare }
+    ensures moves { out.new.items
+        ≡ out.old.items
+        ++ moves_from 1 (states_in sets.old) (slice_set (states_in sets.old) at between)
+        states.new.items }
+    ensures sets { sets.new ≡ with_states sets.old states.new.items }
+    ensures states { (n m : ℕ) (hs : List Model) → PortsRepresent n m ports.now hs →
+        states.new.items ≡ states_of hs }
+    ensures places { length ports.now ≤ length states.new.items + states.new.spare }
+{
+    states.clear();
+    push_states(ports, states);
+    push_moves(sets.items(), at, between, states.items(), out);
+    set_states(sets, states.items());
 }

@@ -3,6 +3,8 @@ ghost use Rattle.bc_history.specs.Phases.OpeningState.{local_announcement, local
 ghost use Rattle.ptp_base.specs.declared.limits.TheConstants.{DELAYS_MAX, PORTS_MAX};
 ghost use Rattle.bc_history.specs.Scenario.ScenarioRules.{IsPortConf};
 ghost use Rattle.bc_ports.specs.OpenPorts.{ArePortsFrom, IsOpenPort, port_set_from, port_sets_from};
+ghost use Rattle.ptp_profile.specs.Best.StateDecision.{bests_of};
+ghost use Rattle.bc_ports.specs.DecisionCost.{no_bests};
 ghost use Rattle.bc_ports.specs.Representation.{ClockRepresents, IsSound};
 
 use crate::boundary_clock::BoundaryClock;
@@ -16,6 +18,7 @@ use ptp_base::{
     Announcement, FOREIGN_MASTER_TIME_WINDOW, Items, NoMemory, PortConf, PortId, PortState,
     Quality, TimeProps, interval,
 };
+use state_decision::Decider;
 use std::alloc::Global;
 
 /// What the own clock would announce (D0 of IEEE 1588-2019, 9.3.4).
@@ -134,6 +137,7 @@ impl BoundaryClock {
             (λ n. ClockRepresents s.now.options n (opening s.now).core None) }
         ensures sound { IfOk result IsSound }
         ensures length { IfOk result (λ n. n.ports.len ≡ length s.now.ports) }
+        ensures bests { IfOk result (λ n. bests_of n.decider.bests ≡ no_bests s.now.ports) }
     {
         s.rules();
         let own = local_announcement(&s.options);
@@ -143,6 +147,7 @@ impl BoundaryClock {
             sets: DataSets::new(own, s.options.domain_number, own.time, sets),
             ports: open_ports(alloc, &s.options, s.ports.items())?,
             scratch: DecisionScratch::with(alloc, s.ports.len())?,
+            decider: Decider::new(alloc, own, s.ports.len() as u16)?,
         })
     }
 }

@@ -2,7 +2,7 @@ ghost use Rattle.std.specs.Prelude.{◌≤◌, IfOk};
 ghost use Rattle.ptp_base.specs.declared.limits.TheConstants.{PORTS_MAX};
 ghost use Rattle.bc_ports.specs.DecisionScratch.{HasRoom};
 
-use ptp_base::{Code, NoMemory, Room};
+use ptp_base::{Code, NoMemory, PortState, Room};
 use ptp_profile::PortBest;
 use std::alloc::Global;
 
@@ -13,6 +13,8 @@ pub struct DecisionScratch {
     pub bests: Room<PortBest>,
     /// The code of each port, by rising number.
     pub codes: Vec<Code>,
+    /// The state of each port after the decision, by rising number.
+    pub states: Room<PortState>,
 }
 
 impl DecisionScratch {
@@ -24,6 +26,7 @@ impl DecisionScratch {
         Ok(DecisionScratch {
             bests: Room::with(alloc, ports)?,
             codes: vec![in alloc; Code::Stay; ports]?,
+            states: Room::with(alloc, ports)?,
         })
     }
 }

@@ -1,5 +1,7 @@
 pub mod PortEntryLemmas
 pub mod EntryLemmas
+pub mod RolesStayLemmas
+pub mod DecisionHistoryLemmas
 pub mod HubLemmas
 pub mod EffectRoomLemmas
 pub mod PortlessEntryLemmas

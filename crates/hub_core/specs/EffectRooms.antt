@@ -4,6 +4,7 @@ use Rattle.ptp_base.specs.Room.{Reserved}
 use Rattle.ptp_base.specs.declared.limits.TheConstants.{SENT_MAX}
 use Rattle.bc_history.specs.declared.entry.Effects.{Effects}
 use Rattle.bc_history.specs.declared.entry.Sent.{Sent}
+use Rattle.bc_history.specs.declared.scenario.Scenario.{Scenario}
 use Rattle.hub_core.specs.declared.effect_rooms.EffectRooms.{EffectRooms}
 use Rattle.hub_core.specs.declared.effect_rooms.EffectCopies.{EffectCopies}
 
@@ -39,3 +40,7 @@ pub record AreFew (ports clocks : ℕ) (f : Effects) : Type 0 where
   pub frames : length f.frames ≤ 2
   pub short : All IsShort f.frames
   pub unanswered : f.answers ≡ []
+
+-- so of the ports and clocks of a scenario
+abbrev pub TellsFew : Scenario → Effects → Type 0
+TellsFew s f = AreFew (length s.ports) (length s.clocks) f

@@ -20,6 +20,8 @@ use Rattle.bc_history.specs.Phases.Inputs.{IsReadTime, IsTime, port_of, tick_of}
 use Rattle.bc_history.specs.Scenario.ScenarioRules.{IsScenario}
 use Rattle.bc_history.specs.Phases.Step.{state_of}
 use Rattle.bc_windows.specs.Windows.{IsInBound, IsMadeBy, Window}
+use Rattle.ptp_profile.specs.Best.StateDecision.{bests_of}
+use Rattle.hub_core.specs.DecisionHistory.{decided_bests}
 use Rattle.hub_core.specs.GivenWindows.{windows_of}
 use Rattle.hub_core.specs.HubParts.{PartsRepresent}
 use Rattle.hub_core.specs.PortReading.{input_seen}
@@ -128,3 +130,4 @@ pub record IsHub (i : Inside) : Type 0 where
   pub few_asked : i.asked ≤ length i.entries
   pub asked : i.asked ≡ (state_of i.scenario.value (history_of i)).queries
   pub sequence : i.sequence ≡ (state_of i.scenario.value (history_of i)).requests % 65536
+  pub decided : bests_of i.machine.core.decider.bests ≡ decided_bests i.scenario.value (history_of i)

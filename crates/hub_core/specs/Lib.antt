@@ -3,5 +3,8 @@ pub mod FollowerInputs
 pub mod EffectRooms
 pub mod EffectParts
 pub mod HubParts
+pub mod StatesTold
 pub mod GivenWindows
 pub mod HubView
+pub mod DecisionHistory
+pub mod HubCost

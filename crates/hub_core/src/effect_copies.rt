@@ -3,7 +3,7 @@ ghost use Rattle.ptp_base.specs.declared.limits.TheConstants.{SENT_MAX};
 ghost use Rattle.hub_core.specs.EffectRooms.{AreCopies, AreFew, HasPlacesFor, IsShort};
 
 use crate::effect_rooms::EffectCopies;
-use bc_history::{Effects, Entry, Sends, Sent};
+use bc_history::{Effects, Sends, Sent};
 use ptp_base::{Items, Octets, Room};
 use std::alloc::Global;
 
@@ -87,60 +87,5 @@ impl EffectCopies {
             asked: effects.asked,
             answers: Items::new(alloc),
         }
-    }
-}
-
-/// The list with no more places than elements, as far as the allocator has it so.
-fn trimmed<T: Drop>(items: Items<T>) -> Items<T>
-    ensures { result ≡ items }
-{
-    let mut elements = items.into_vec();
-    elements.shrink_to_fit();
-    Items::from_vec(elements)
-}
-
-/// What an event told, in as little memory as the allocator has for it.
-fn trimmed_effects(effects: Effects) -> Effects
-    ensures { result ≡ effects }
-{
-    let Effects {
-        fate,
-        states,
-        parent,
-        orders,
-        measure,
-        frames,
-        told,
-        asked,
-        answers,
-    } = effects;
-    Effects {
-        fate,
-        states: trimmed(states),
-        parent,
-        orders: trimmed(orders),
-        measure,
-        frames: trimmed(frames),
-        told,
-        asked,
-        answers,
-    }
-}
-
-/// An entry in as little memory as the allocator has for it.
-pub fn trimmed_entry(entry: Entry) -> Entry
-    ensures { result ≡ entry }
-{
-    let Entry {
-        input,
-        moment,
-        seen,
-        effects,
-    } = entry;
-    Entry {
-        input,
-        moment,
-        seen,
-        effects: trimmed_effects(effects),
     }
 }

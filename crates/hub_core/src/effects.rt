@@ -21,7 +21,17 @@ pub fn sends_of(port: u16, frames: Frames, out: Room<Sent>) -> Sends
     out.done()
 }
 
-/// What an event of a port tells: followers are told nothing, and nobody asks.
+/// The list with no more places than elements, as far as the allocator has it so.
+fn trimmed<T: Drop>(items: Items<T>) -> Items<T>
+    ensures { result ≡ items }
+{
+    let mut elements = items.into_vec();
+    elements.shrink_to_fit();
+    Items::from_vec(elements)
+}
+
+/// What an event of a port tells, in as little memory as the allocator has for it: followers are told
+/// nothing, and nobody asks.
 pub fn effects_with(
     alloc: Global,
     outcome: EventOutcome,
@@ -38,11 +48,11 @@ pub fn effects_with(
     } = outcome;
     Effects {
         fate,
-        states,
+        states: trimmed(states),
         parent,
-        orders,
+        orders: trimmed(orders),
         measure,
-        frames,
+        frames: trimmed(frames),
         told: None,
         asked: None,
         answers: Items::new(alloc),

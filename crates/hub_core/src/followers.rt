@@ -108,6 +108,7 @@ impl HubParts {
             → PartsRepresent s self.old (state_of s entries) → IsDue s (state_of s entries) input
             → PartsYield s entries self.old.roles.seats.logs input self.new result }
         ensures roles { self.new.roles ≡ self.old.roles }
+        ensures bests { self.new.core.decider.bests ≡ self.old.core.decider.bests }
         ensures ports { self.new.core.ports.len ≡ self.old.core.ports.len }
         ensures told { (told : Option Told) × (result
             ≡ follower_entry input self.new.core.moment told) }

@@ -1,4 +1,4 @@
-ghost use Rattle.std.specs.Prelude.{◌≡◌, ◌<◌, ◌↔◌, length, reverse, All, Err, IfOk, OnOk, OnErr};
+ghost use Rattle.std.specs.Prelude.{◌≡◌, ◌+◌, ◌<◌, ◌≤◌, ◌↔◌, false, length, reverse, All, Err, IfOk, OnOk, OnErr};
 ghost use Rattle.std.specs.Option.{option_and_then};
 ghost use Rattle.ptp_base.specs.declared.limits.TheConstants.{ENTRIES_MAX};
 ghost use Rattle.ptp_profile.specs.Roles.SeatLogs.{logs_from};
@@ -10,19 +10,23 @@ ghost use Rattle.bc_history.specs.Run.NextInputs.{IsDue};
 ghost use Rattle.bc_history.specs.Phases.HubPort.{HubPort};
 ghost use Rattle.bc_history.specs.Phases.Step.{state_of};
 ghost use Rattle.bc_windows.specs.Windows.{IsMadeBy};
+ghost use Rattle.bc_ports.specs.DecisionCost.{setting_cost};
+ghost use Rattle.hub_core.specs.EffectRooms.{TellsFew};
 ghost use Rattle.hub_core.specs.FollowerInputs.{IsServed};
+ghost use Rattle.hub_core.specs.HubCost.{IsCountedAt, decides, event_at, few_comparisons, former_bests, present_bests};
 ghost use Rattle.hub_core.specs.HubView.{AreLawfulLogs, HubState, HubYields, IsInWindow, IsMeasuredTime, draft_entry, entry_by, newest_seen, hub_at_opening, reading_at, with_entry};
 
-use crate::effect_copies::trimmed_entry;
 use crate::effect_rooms::{EffectCopies, EffectRooms};
 use crate::hub_parts::HubParts;
 use crate::windows::GivenWindows;
 use bc_history::{Effects, Entries, Entry, Input, Logs, Scenario};
+use bc_ports::Steps;
 use ptp_base::{ENTRIES_MAX, Items, NoMemory};
 use ptp_profile::Timer;
 use std::alloc::Global;
 use std::marker::Model;
 use std::snapshot::Snapshot;
+use std::sync::ledger::Ledger;
 
 /// Why the hub takes no event.
 #[derive(Clone, Copy, Debug, PartialEq, Eq)]
@@ -88,11 +92,17 @@ impl Hub {
         })
     }
 
-    /// One event: the history has one entry more, with the reading of the port's clock where the
-    /// input comes with one, and its orders stand in the logs. The input is the next one of its actor,
-    /// due, and up to the end of the present window, if there is one. Events exactly where the history has `ENTRIES_MAX` entries. A refusal leaves the hub
-    /// as it was.
-    pub fn event(&mut self, input: Input) -> Result<Effects, HubError>
+    /// One event, and what it told: the history has one entry more, with the reading of the port's clock
+    /// where the input comes with one, and its orders stand in the logs. The input is the next one of its
+    /// actor, due, and up to the end of the present window, if there is one. Events exactly where the
+    /// history has `ENTRIES_MAX` entries. A refusal leaves the hub as it was. Comparisons of announcements
+    /// are counted: none where the entry raises no decision, and few where each port's best is that of the
+    /// last decision.
+    pub fn event<L: Ledger>(
+        &mut self,
+        input: Input,
+        steps: &mut Steps<L>,
+    ) -> Result<Effects, HubError>
         requires due { IsDue self.old.scenario (state_of self.old.scenario self.old.entries) input }
         requires within { IsInWindow self.old input }
         ensures events { (result ≡ Err HubError.Events) ↔ (length self.old.entries ≡ ENTRIES_MAX) }
@@ -103,36 +113,99 @@ impl Hub {
             ≡ (entry_by self.old input (newest_seen self.new.entries)).effects) }
         ensures measured { IfOk result IsMeasuredTime }
         ensures same { OnErr result (self.new ≡ self.old) }
+        ensures uncounted { decides self.old input ≡ false → steps.new ≡ steps.old }
+        ensures same_bests { present_bests self.old input ≡ former_bests self.old →
+            steps.new ≤ steps.old + few_comparisons self.old input }
+        ensures counted { steps.new ≤ steps.old + few_comparisons self.old input
+            + setting_cost (length self.old.scenario.ports) }
     {
         if self.entries.len() >= ENTRIES_MAX as usize {
             return Err(HubError::Events);
         }
         Ok(match input {
             Input::Query { tick, text } => self.take_query(tick, text)?,
-            input => self.serve(input)?,
+            input => self.tell(input, steps)?,
         })
     }
 
+    /// One event, as by `event`. What it told stands in the newest entry alone, and no copy is made.
+    pub fn take<L: Ledger>(&mut self, input: Input, steps: &mut Steps<L>) -> Result<(), HubError>
+        requires due { IsDue self.old.scenario (state_of self.old.scenario self.old.entries) input }
+        requires within { IsInWindow self.old input }
+        ensures events { (result ≡ Err HubError.Events) ↔ (length self.old.entries ≡ ENTRIES_MAX) }
+        ensures entry { OnOk result (self.new
+            ≡ with_entry self.old (entry_by self.old input (newest_seen self.new.entries))) }
+        ensures reading { OnOk result (newest_seen self.new.entries ≡ reading_at self.old input) }
+        ensures measured { OnOk result (IsMeasuredTime
+            (entry_by self.old input (newest_seen self.new.entries)).effects) }
+        ensures same { OnErr result (self.new ≡ self.old) }
+        ensures uncounted { decides self.old input ≡ false → steps.new ≡ steps.old }
+        ensures same_bests { present_bests self.old input ≡ former_bests self.old →
+            steps.new ≤ steps.old + few_comparisons self.old input }
+        ensures counted { steps.new ≤ steps.old + few_comparisons self.old input
+            + setting_cost (length self.old.scenario.ports) }
+    {
+        if self.entries.len() >= ENTRIES_MAX as usize {
+            return Err(HubError::Events);
+        }
+        match input {
+            Input::Query { tick, text } => {
+                self.take_query(tick, text)?;
+            }
+            input => self.serve(input, steps)?,
+        }
+        Ok(())
+    }
+
     /// One event of a port or of a follower, where the history has a place for it.
-    fn serve(&mut self, input: Input) -> Result<Effects, NoMemory>
+    fn serve<L: Ledger>(&mut self, input: Input, steps: &mut Steps<L>) -> Result<(), NoMemory>
+        requires due { IsDue self.old.scenario (state_of self.old.scenario self.old.entries) input }
+        requires within { IsInWindow self.old input }
+        requires own { IsServed input }
+        requires few { length self.old.entries < ENTRIES_MAX }
+        ensures yields { OnOk result (HubYields self.old input self.new
+            (entry_by self.old input (newest_seen self.new.entries)).effects) }
+        ensures few { OnOk result (TellsFew self.old.scenario
+            (entry_by self.old input (newest_seen self.new.entries)).effects) }
+        ensures same { OnErr result (self.new ≡ self.old) }
+        ensures counted { OnOk result (IsCountedAt self.old.scenario self.old.entries
+            (event_at self.old input) steps.old steps.new) }
+        ensures uncounted { OnErr result (steps.new ≡ steps.old) }
+        ensures most { steps.new ≤ steps.old + few_comparisons self.old input
+            + setting_cost (length self.old.scenario.ports) }
+    {
+        let ports = self.machine.core.ports.len();
+        let clocks = self.machine.roles.clocks();
+        let rooms = EffectRooms::with(self.alloc, ports, clocks)?;
+        self.machine.roles.reserve()?;
+        let last = self.entries.len();
+        self.entries.push(draft(self.alloc))?;
+        let entry = self.machine.take(self.alloc, input, rooms, steps);
+        self.entries.set(last, entry);
+        Ok(())
+    }
+
+    /// One event of a port or of a follower, where the history has a place for it, and a copy of what it
+    /// told, whose places are there before anything changes.
+    fn tell<L: Ledger>(&mut self, input: Input, steps: &mut Steps<L>) -> Result<Effects, NoMemory>
         requires due { IsDue self.old.scenario (state_of self.old.scenario self.old.entries) input }
         requires within { IsInWindow self.old input }
         requires own { IsServed input }
         requires few { length self.old.entries < ENTRIES_MAX }
         ensures yields { IfOk result (HubYields self.old input self.new) }
         ensures same { OnErr result (self.new ≡ self.old) }
+        ensures counted { OnOk result (IsCountedAt self.old.scenario self.old.entries
+            (event_at self.old input) steps.old steps.new) }
+        ensures uncounted { OnErr result (steps.new ≡ steps.old) }
+        ensures most { steps.new ≤ steps.old + few_comparisons self.old input
+            + setting_cost (length self.old.scenario.ports) }
     {
         let ports = self.machine.core.ports.len();
         let clocks = self.machine.roles.clocks();
-        let rooms = EffectRooms::with(self.alloc, ports, clocks)?;
         let copies = EffectCopies::with(self.alloc, ports, clocks)?;
-        self.machine.roles.reserve()?;
-        let last = self.entries.len();
-        self.entries.push(draft(self.alloc))?;
-        let entry = self.machine.take(self.alloc, input, rooms);
-        let effects = copies.of(self.alloc, &entry.effects);
-        self.entries.set(last, trimmed_entry(entry));
-        Ok(effects)
+        self.serve(input, steps)?;
+        let newest = self.entries.len() - 1;
+        Ok(copies.of(self.alloc, &self.entries.items()[newest].effects))
     }
 
     /// The moment and the timer of a port that is due first, if the port is there and one is set.

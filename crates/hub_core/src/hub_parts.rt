@@ -1,27 +1,32 @@
 ghost use Rattle.ptp_base.specs.declared.time.TheConstants.{TICK_MAX, TIME_MAX};
-ghost use Rattle.std.specs.Prelude.{◌≡◌, pos, ◌+◌, ◌<◌, ◌≤◌, ◌≤ℤ◌, List, length, if◌then◌else◌, Some, None};
+ghost use Rattle.std.specs.Prelude.{◌≡◌, pos, ◌+◌, ◌<◌, ◌≤◌, ◌≤ℤ◌, List, ◌∷◌, length, if◌then◌else◌, Some, None};
 ghost use Rattle.model_clock.specs.Clock.{clock_at};
 ghost use Rattle.ptp_profile.specs.Roles.SeatLogs.{log_at, whole_reading, with_orders};
 ghost use Rattle.bc_history.specs.declared.entry.Entry.{Entry};
 ghost use Rattle.bc_history.specs.declared.scenario.Scenario.{Scenario};
-ghost use Rattle.bc_history.specs.Phases.Inputs.{history_input, is_read, value_of};
+ghost use Rattle.bc_history.specs.Phases.Inputs.{event_of, history_input, is_read, value_of};
 ghost use Rattle.bc_history.specs.Run.NextInputs.{IsDue};
 ghost use Rattle.bc_history.specs.Scenario.ScenarioRules.{IsScenario};
 ghost use Rattle.bc_history.specs.Phases.Step.{state_of};
 ghost use Rattle.bc_history.specs.Run.World.{seen_at};
 ghost use Rattle.hub_core.specs.HubParts.{IsAt, PartsRepresent, PartsYield};
+ghost use Rattle.ptp_profile.specs.Best.StateDecision.{bests_of};
+ghost use Rattle.hub_core.specs.DecisionHistory.{decided_bests};
 ghost use Rattle.hub_core.specs.EffectRooms.{AreFew, AreRooms};
 ghost use Rattle.hub_core.specs.FollowerInputs.{IsServed};
+ghost use Rattle.hub_core.specs.HubCost.{IsCountedAt};
 
+use crate::advance::advance_roles;
 use crate::effect_rooms::EffectRooms;
 use crate::effects::{effects_with, sends_of};
 use crate::own_input::{history_input, is_of_follower, port_input};
 use bc_history::{Entry, Input, PortEntry, PortHappening, PortInput, Seen};
 use bc_notices::{Notice, Notices};
-use bc_ports::BoundaryClock;
+use bc_ports::{BoundaryClock, Steps};
 use bc_roles::Roles;
 use ptp_base::{PortState, Room};
 use std::alloc::Global;
+use std::sync::ledger::Ledger;
 
 /// All that a hub keeps of its history but the entries: ports and data sets, roles and logs, and what
 /// waits for followers.
@@ -83,7 +88,13 @@ impl HubParts {
 
     /// All that an input of a port does: the entry that it makes, in rooms that are large enough.
     /// Does not allocate.
-    fn serve(&mut self, alloc: Global, input: PortInput, rooms: EffectRooms) -> Entry
+    fn serve<L: Ledger>(
+        &mut self,
+        alloc: Global,
+        input: PortInput,
+        rooms: EffectRooms,
+        steps: &mut Steps<L>,
+    ) -> Entry
         requires at { IsAt self.old (history_input input) }
         requires rooms { AreRooms self.old.core.ports.len (length self.old.roles.stamps) rooms }
         ensures served { (s : Scenario) (entries : List Entry) → IsScenario s →
@@ -94,6 +105,16 @@ impl HubParts {
             ≡ with_orders self.old.roles.seats.logs result.effects.orders }
         ensures gener { self.new.roles.generation.gener ≤ self.old.roles.generation.gener + 1 }
         ensures few { AreFew self.old.core.ports.len (length self.old.roles.stamps) result.effects }
+        ensures bests { (s : Scenario) (entries : List Entry) → IsScenario s →
+            PartsRepresent s self.old (state_of s entries) →
+            IsDue s (state_of s entries) (history_input input) →
+            bests_of self.old.core.decider.bests ≡ decided_bests s entries →
+            bests_of self.new.core.decider.bests ≡ decided_bests s (result ∷ entries) }
+        ensures counted { (s : Scenario) (entries : List Entry) → IsScenario s →
+            PartsRepresent s self.old (state_of s entries) →
+            IsDue s (state_of s entries) (history_input input) →
+            bests_of self.old.core.decider.bests ≡ decided_bests s entries →
+            IsCountedAt s entries (event_of result) steps.old steps.new }
     {
         let EffectRooms {
             moves,
@@ -110,15 +131,14 @@ impl HubParts {
             held: self.roles.held(clock),
             reading: value_of(&seen),
         };
-        self.states.clear();
-        let outcome = self
-            .core
-            .serve(&entry, &mut frames, moves, &mut self.states);
+        let outcome = self.core.serve(&entry, &mut frames, moves, steps);
         let before = self.roles.generation();
-        let orders = self.roles.advance(
-            self.states.items(),
+        let orders = advance_roles(
+            &mut self.roles,
+            &outcome,
+            &self.core,
+            &mut self.states,
             &self.port_clocks,
-            self.core.sets.parent,
             orders,
         );
         self.post(before);
@@ -132,7 +152,13 @@ impl HubParts {
 
     /// All that an input of a port or of a follower does: the entry that it makes, in rooms that are
     /// large enough. Does not allocate.
-    pub fn take(&mut self, alloc: Global, input: Input, rooms: EffectRooms) -> Entry
+    pub fn take<L: Ledger>(
+        &mut self,
+        alloc: Global,
+        input: Input,
+        rooms: EffectRooms,
+        steps: &mut Steps<L>,
+    ) -> Entry
         requires at { IsAt self.old input }
         requires own { IsServed input }
         requires rooms { AreRooms self.old.core.ports.len (length self.old.roles.stamps) rooms }
@@ -143,11 +169,21 @@ impl HubParts {
             ≡ with_orders self.old.roles.seats.logs result.effects.orders }
         ensures gener { self.new.roles.generation.gener ≤ self.old.roles.generation.gener + 1 }
         ensures few { AreFew self.old.core.ports.len (length self.old.roles.stamps) result.effects }
+        ensures bests { (s : Scenario) (entries : List Entry) → IsScenario s →
+            PartsRepresent s self.old (state_of s entries) →
+            IsDue s (state_of s entries) input →
+            bests_of self.old.core.decider.bests ≡ decided_bests s entries →
+            bests_of self.new.core.decider.bests ≡ decided_bests s (result ∷ entries) }
+        ensures counted { (s : Scenario) (entries : List Entry) → IsScenario s →
+            PartsRepresent s self.old (state_of s entries) →
+            IsDue s (state_of s entries) input →
+            bests_of self.old.core.decider.bests ≡ decided_bests s entries →
+            IsCountedAt s entries (event_of result) steps.old steps.new }
     {
         if is_of_follower(&input) {
             self.follow(alloc, input)
         } else {
-            self.serve(alloc, port_input(input), rooms)
+            self.serve(alloc, port_input(input), rooms, steps)
         }
     }
 }

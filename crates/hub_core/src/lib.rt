@@ -5,6 +5,7 @@
 #![tactic(auto)]
 
 mod adjust;
+mod advance;
 mod effect_copies;
 mod effect_rooms;
 mod effects;
@@ -22,4 +23,5 @@ pub use bc_history::{
     Answers, AskError, Effects, Entries, Entry, Input, Logs, Moved, Moves, Outcome, RoleOrders,
     Scenario, Seen, Sends, Sent, Told,
 };
+pub use bc_ports::Steps;
 pub use hub::{Hub, HubError};

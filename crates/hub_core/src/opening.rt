@@ -2,6 +2,8 @@ ghost use Rattle.std.specs.Prelude.{◌≡◌, map, IfOk};
 ghost use Rattle.ptp_base.specs.declared.port_conf.PortConf.{PortConf};
 ghost use Rattle.ptp_profile.specs.Roles.SeatLogs.{no_logs};
 ghost use Rattle.bc_history.specs.Phases.OpeningState.{opening};
+ghost use Rattle.ptp_profile.specs.Best.StateDecision.{bests_of};
+ghost use Rattle.bc_ports.specs.DecisionCost.{no_bests};
 ghost use Rattle.hub_core.specs.HubParts.{PartsRepresent};
 
 use crate::hub_parts::HubParts;
@@ -30,6 +32,7 @@ impl HubParts {
         ensures machine { IfOk result (λ m. PartsRepresent s.now m (opening s.now)) }
         ensures logs { IfOk result (λ m. m.roles.seats.logs ≡ no_logs s.now.clocks) }
         ensures gener { IfOk result (λ m. m.roles.generation.gener ≡ 0) }
+        ensures bests { IfOk result (λ m. bests_of m.core.decider.bests ≡ no_bests s.now.ports) }
     {
         s.rules();
         Ok(HubParts {

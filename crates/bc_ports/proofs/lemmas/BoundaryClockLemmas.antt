@@ -1,5 +1,5 @@
 -- An entry's own port among all ports of a clock.
-use Rattle.std.proofs.Common.{◌≡◌, ℕ, suc, ◌<◌, List, [], ◌∷◌, ◌++◌, map, length, get_or, set, refl, ap, subst, sym, ◌∙◌, arith, Option, Some, None}
+use Rattle.std.proofs.Common.{◌≡◌, ℕ, zero, suc, ◌-◌, ◌<◌, List, [], ◌∷◌, ◌++◌, map, length, get_or, set, refl, ap, subst, sym, ◌∙◌, arith, Option, Some, None}
 use Rattle.std.specs.Prelude.{max, slice_get, option_map, option_and_then, option_to_list, flat_map, IsSomeAnd}
 use Rattle.std.proofs.lemmas.List.{append-nil}
 use Rattle.ptp_base.specs.declared.identity.PortId.{PortId}
@@ -18,13 +18,22 @@ use Rattle.bc_history.specs.declared.port_input.PortEntry.{PortEntry}
 use Rattle.bc_history.specs.declared.scenario.Options.{Options}
 use Rattle.bc_history.specs.Phases.Inputs.{port_at, at_port, changed_at}
 use Rattle.bc_history.specs.Phases.PortPhase.{after_port, after_input, context_of, fate_at, happening_fate, happening_measure, measured_at}
-use Rattle.bc_history.specs.Phases.DecisionPhase.{newest_sender, with_renewal, after_hearing, with_codes, with_code, master_among, raises_decision}
+use Rattle.bc_history.specs.Phases.DecisionPhase.{best_of, code_with, is_new_parent, newest_sender, with_renewal, after_hearing, with_codes, with_code, master_among, raises_decision}
 use Rattle.bc_history.specs.Phases.EntryEffects.{frames_at, messages_of, frame_of_message}
 use Rattle.bc_history.specs.Phases.Step.{at_moment}
 use Rattle.bc_history.specs.Phases.State.{Core}
 use Rattle.bc_history.specs.Phases.HubPort.{TickMeasure, HubPort}
 use Rattle.bc_history.proofs.lemmas.CoreInvariantLemmas.{slice_get-changed_at, port_at-map}
 use Rattle.bc_ports.specs.Representation.{PortRepresents, PortsRepresent, IsSamePort, IsClockOf, ArePortsOf, CoreRepresents}
+use Rattle.ptp_base.specs.declared.port_conf.PortConf.{PortConf}
+use Rattle.ptp_profile.specs.declared.port_best.PortBest.{PortBest}
+use Rattle.ptp_profile.specs.declared.port_event.PortEvent.TheVariants.{Decided}
+use Rattle.ptp_profile.specs.Best.ForeignMasters.{erbest}
+use Rattle.ptp_profile.specs.Best.StateDecision.{bests_of}
+use Rattle.ptp_profile.specs.Port.PortTimers.{window_of}
+use Rattle.bc_history.proofs.lemmas.PortPhaseLemmas.{face-after_event}
+use Rattle.bc_ports.specs.DecisionCost.{bests_at}
+use Rattle.state_decision.specs.DeciderView.{DeciderView, HasBest}
 use Rattle.bc_ports.specs.PortYield.{IsSenderOf, PortYields}
 use Rattle.bc_ports.specs.ClockYield.{IsHeard, IsKeptAt, CoreYields}
 use Rattle.bc_ports.specs.declared.boundary_clock.BoundaryClock.{BoundaryClock}
@@ -86,12 +95,12 @@ yields-there o e c i d h new q' before after t number found master core y =
 -- the clock whose port of index i took its input
 pub core-taken : (o : Options) (e : PortEntry) (c : Core) (old new : BoundaryClock) (i : ℕ) (q q' : KeptPort) (before after : List (List ℕ)) (t : PortOutcome)
     → e.input.number ≡ suc i → i < length old.ports.items → q ≡ get_or old.ports.items i q → IsSamePort q q'
-    → new.moment ≡ max old.moment e.input.tick → new.sets ≡ old.sets → new.ports.items ≡ set old.ports.items i q'
+    → new.moment ≡ max old.moment e.input.tick → new.sets ≡ old.sets → new.decider ≡ old.decider → new.ports.items ≡ set old.ports.items i q'
     → ((h : HubPort) → IsClockOf o old.sets → PortRepresents o.delay_filter_length new.moment q h
     → PortYields o (context_with e new.moment (master_in old.sets)) old.sets e.input.tick e.input.what q' before after t h)
     → CoreRepresents o old c → CoreYields o e (at_moment e.input.tick c) new before after t
 unfolding after_port
-core-taken o e c old new i q q' before after t number lt at same moment sets ports takes is =
+core-taken o e c old new i q q' before after t number lt at same moment sets decider ports takes is =
     let n = o.delay_filter_length in
     let core : Core = at_moment e.input.tick c in
     let moment_is : new.moment ≡ core.moment = moment ∙ ap (λ (m : ℕ). max m e.input.tick) is.moment in
@@ -112,6 +121,7 @@ core-taken o e c old new i q q' before after t number lt at same moment sets por
       moment = moment_is;
       clock = subst D (sym sets) is.clock;
       master = ap (λ (d : DataSets). master_in d) sets ∙ is.master;
+      own = ap (λ (d : DeciderView). d.own) decider ∙ is.own;
       numbers = subst R (sym ports) (ArePortsOf-set o 1 old.ports.items i q q' is.numbers lt at same);
       ports = subst Q (sym ports) (subst P (sym number) changed);
     })
@@ -125,17 +135,39 @@ heard-some hs i number h sender number_is found heard =
     let Q : Option HubPort → Type 0 = λ x. IsSomeAnd x (λ (g : HubPort). newest_sender g.kept ≡ Some sender) in
     subst Q found (subst P number_is heard)
 
+-- its best is the one by the decision
+option-some : {A : Type 0} (x y : Option A) (a b : A) → x ≡ Some a → y ≡ Some b → x ≡ y → a ≡ b
+option-some x y a b one other same = cc
+
+best-at : (m i : ℕ) (hs : List HubPort) (h : HubPort) → slice_get hs i ≡ Some h → slice_get (bests_at m hs) i ≡ Some (best_of m h)
+best-at m i [] h found = absurd (cc)
+best-at m zero (g ∷ hs) h found = ap (λ (x : Option HubPort). option_map (best_of m) x) found
+best-at m (suc i) (g ∷ hs) h found = best-at m i hs h found
+
+best-set : (i : ℕ) (ports : List PortBest) → slice_get (bests_of ports) i ≡ option_map (λ (port : PortBest). port.best) (slice_get ports i)
+best-set i [] = refl
+best-set zero (p ∷ ports) = refl
+best-set (suc i) (p ∷ ports) = best-set i ports
+
+best-some : (c : Core) (m number i : ℕ) (h : HubPort) (ports : List PortBest) (best : Option Announcement) → number ≡ suc i → m ≡ c.moment → slice_get c.ports i ≡ Some h → HasBest number ports best
+    → bests_at c.moment c.ports ≡ bests_of ports → best ≡ best_of m h
+best-some c m number i h ports best number_is moment found has bests =
+    let there : slice_get (bests_of ports) i ≡ Some (best_of m h) = ap (λ (xs : List (Option Announcement)). slice_get xs i) (sym bests) ∙ (ap (λ (k : ℕ). slice_get (bests_at k c.ports) i) (sym moment) ∙ best-at m i c.ports h found) in
+    let index : number - 1 ≡ i = omega (arith, number_is) in
+    let here : slice_get (bests_of ports) i ≡ Some best = best-set i ports ∙ (ap (λ (k : ℕ). option_map (λ (port : PortBest). port.best) (slice_get ports k)) (sym index) ∙ has) in
+    option-some _ _ best (best_of m h) here there refl
+
 -- it sets announce receipt anew
-pub core-renewed : (o : Options) (number : ℕ) (c : Core) (old new : BoundaryClock) (i : ℕ) (q q' : KeptPort) (sender : PortId)
-    → number ≡ suc i → i < length old.ports.items → q ≡ get_or old.ports.items i q → IsSamePort q q' → new.moment ≡ old.moment → new.sets ≡ old.sets → new.ports.items ≡ set old.ports.items i q'
-    → ((h : HubPort) → PortRepresents o.delay_filter_length old.moment q h → newest_sender h.kept ≡ Some sender → PortRepresents o.delay_filter_length old.moment q' (with_renewal old.moment h))
-    → IsHeard number c.ports sender → CoreRepresents o old c → CoreRepresents o new (after_hearing number c)
+pub core-renewed : (o : Options) (number : ℕ) (c : Core) (old new : BoundaryClock) (i : ℕ) (q q' : KeptPort) (sender : PortId) (best : Option Announcement)
+    → number ≡ suc i → i < length old.ports.items → q ≡ get_or old.ports.items i q → IsSamePort q q' → new.moment ≡ old.moment → new.sets ≡ old.sets → new.decider ≡ old.decider → new.ports.items ≡ set old.ports.items i q'
+    → ((h : HubPort) → PortRepresents o.delay_filter_length old.moment q h → best ≡ best_of old.moment h → newest_sender h.kept ≡ Some sender → PortRepresents o.delay_filter_length old.moment q' (with_renewal old.moment h))
+    → HasBest number old.decider.bests best → bests_at c.moment c.ports ≡ bests_of old.decider.bests → IsHeard number c.ports sender → CoreRepresents o old c → CoreRepresents o new (after_hearing number c)
 unfolding after_hearing
-core-renewed o number c old new i q q' sender number_is lt at same moment sets ports renews heard is =
+core-renewed o number c old new i q q' sender best number_is lt at same moment sets decider ports renews has bests heard is =
     let n = o.delay_filter_length in
     let f : HubPort → HubPort = with_renewal c.moment in
     let S : ℕ → Type 0 = λ m. (h : HubPort) → slice_get c.ports i ≡ Some h → PortRepresents n old.moment q h → PortRepresents n old.moment q' (with_renewal m h) in
-    let steps : S c.moment = subst S is.moment (λ h found s. renews h s (heard-some c.ports i number h sender number_is found heard)) in
+    let steps : S c.moment = subst S is.moment (λ h found s. renews h s (best-some c old.moment number i h old.decider.bests best number_is is.moment found has bests) (heard-some c.ports i number h sender number_is found heard)) in
     let changed : PortsRepresent n old.moment (set old.ports.items i q') (changed_at f i c.ports) = PortsRepresent-at n old.moment old.ports.items c.ports i q q' f is.ports lt at steps in
     let P : ℕ → Type 0 = λ p. PortsRepresent n old.moment (set old.ports.items i q') (at_port f p c.ports) in
     let Q : ℕ → List KeptPort → Type 0 = λ m qs. PortsRepresent n m qs (at_port f number c.ports) in
@@ -145,9 +177,22 @@ core-renewed o number c old new i q q' sender number_is lt at same moment sets p
       moment = moment ∙ is.moment;
       clock = subst D (sym sets) is.clock;
       master = ap (λ (d : DataSets). master_in d) sets ∙ is.master;
+      own = ap (λ (d : DeciderView). d.own) decider ∙ is.own;
       numbers = subst R (sym ports) (ArePortsOf-set o 1 old.ports.items i q q' is.numbers lt at same);
       ports = subst (λ (m : ℕ). Q m new.ports.items) (sym moment) (subst (Q old.moment) (sym ports) (subst P (sym number_is) changed));
     }
+
+-- a decision leaves what the ports hear
+bests-decided : (own : Announcement) (best : Option Announcement) (m k : ℕ) (parent : PortId) (steps : ℕ) (hs : List HubPort) → bests_at k (map (with_code own m best parent steps) hs) ≡ bests_at k hs
+bests-decided own best m k parent steps [] = refl
+bests-decided own best m k parent steps (h ∷ hs) =
+    let conf = ap (λ (f : PortId × PortConf). f.1) (face-after_event m steps (Decided (code_with own m best h)) (is_new_parent best parent) h.port) in
+    ap (λ (x : PortConf). erbest (window_of x) k h.kept ∷ bests_at k (map (with_code own m best parent steps) hs)) conf
+    ∙ ap (λ (xs : List (Option Announcement)). best_of k h ∷ xs) (bests-decided own best m k parent steps hs)
+
+pub bests-with_codes : (own : Announcement) (best : Option Announcement) (c : Core) → bests_at (with_codes own best c).moment (with_codes own best c).ports ≡ bests_at c.moment c.ports
+unfolding with_codes
+bests-with_codes own best c = bests-decided own best c.moment c.moment c.master.parent (master_among own c.moment best c.master c.ports).steps c.ports
 
 -- a decision leaves who was heard
 pub heard-decided : (own : Announcement) (best : Option Announcement) (c : Core) (number : ℕ) (sender : PortId) → IsHeard number c.ports sender → IsHeard number (with_codes own best c).ports sender

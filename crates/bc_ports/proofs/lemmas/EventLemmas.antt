@@ -29,8 +29,9 @@ use Rattle.bc_history.proofs.lemmas.CoreInvariantLemmas.{port_at-at_port, port_a
 use Rattle.bc_history.proofs.lemmas.PortPhaseLemmas.{face, face-after_input, face-with_code, face-with_renewal}
 use Rattle.bc_ports.specs.Representation.{IsClockOf, CoreRepresents, ClockRepresents, MeasureRepresents, port_set}
 use Rattle.bc_ports.specs.DecisionScratch.{IsMeasured, OthersStay, states_in, with_states}
-use Rattle.bc_ports.specs.ClockYield.{CoreYields, EventYields, core_at, core_ported, core_decided, measure_of}
+use Rattle.bc_ports.specs.ClockYield.{CoreYields, EventYields, core_at, core_ported, core_decided, measure_of, raises_at}
 use Rattle.bc_ports.specs.declared.boundary_clock.BoundaryClock.{BoundaryClock}
+use Rattle.bc_ports.specs.declared.scratch.DecisionScratch.{DecisionScratch}
 use Rattle.bc_ports.specs.declared.hub_port.HubPort.{HubPort as KeptPort}
 use Rattle.bc_ports.specs.declared.hub_port.input.PortOutcome.{PortOutcome}
 use Rattle.bc_ports.proofs.lemmas.RepresentationLemmas.{PortsRepresent-get}
@@ -185,61 +186,77 @@ with_states-length (s ∷ sets) (state ∷ states) = ap suc (with_states-length 
 -- ---- an event
 
 -- what was done at an event: old is the clock before it, ported that after its port took the input, decided that after the decision
-pub record IsServed (o : Options) (e : PortEntry) (c : Core) (measured : Option Measure) (old ported decided : BoundaryClock) (before after : List (List ℕ)) (t : PortOutcome) (states : List PortState) (d : DataSets) : Type 0 where
+pub record IsServed (o : Options) (e : PortEntry) (c : Core) (measured : Option Measure) (old ported decided : BoundaryClock) (before after : List (List ℕ)) (t : PortOutcome) : Type 0 where
   pub was : ClockRepresents o old c measured
   pub sets : ported.sets ≡ old.sets
   pub taken : CoreYields o e (core_at e c) ported before after t
   pub core : CoreRepresents o decided (core_decided o e c)
   pub others : OthersStay ported.sets decided.sets
-  pub states_are : states ≡ states_of (core_decided o e c).ports
-  pub measured_is : IsMeasured (record decided.sets { ports = with_states decided.sets.ports states }) d t.measure
 
-sets-before : (o : Options) (e : PortEntry) (c : Core) (measured : Option Measure) (old ported decided : BoundaryClock) (before after : List (List ℕ)) (t : PortOutcome) (states : List PortState) (d : DataSets)
-    → IsServed o e c measured old ported decided before after t states d → decided.sets.ports ≡ map port_set c.ports
-sets-before o e c measured old ported decided before after t states d is = is.others.ports ∙ (ap (λ (x : DataSets). x.ports) is.sets ∙ is.was.port_sets)
+-- the data sets then take the states of the ports, and the measure
+abbrev pub IsStated : Options → PortEntry → Core → (decided d : DataSets) → Option Measure → Type 0
+IsStated o e c decided d measure = IsMeasured (record decided { ports = with_states decided.ports (states_of (core_decided o e c).ports) }) d measure
 
-clock-served : (o : Options) (e : PortEntry) (c : Core) (measured : Option Measure) (old ported decided : BoundaryClock) (before after : List (List ℕ)) (t : PortOutcome) (states : List PortState) (d : DataSets)
-    → IsServed o e c measured old ported decided before after t states d
-    → ClockRepresents o (record decided { sets = d }) (core_decided o e c) (last_measure (option_map {U = Measure × Held} (λ (m : Measure). (m, e.held)) t.measure) measured)
-clock-served o e c measured old ported decided before after t states d is =
+sets-before : (o : Options) (e : PortEntry) (c : Core) (measured : Option Measure) (old ported decided : BoundaryClock) (before after : List (List ℕ)) (t : PortOutcome)
+    → IsServed o e c measured old ported decided before after t → decided.sets.ports ≡ map port_set c.ports
+sets-before o e c measured old ported decided before after t is = is.others.ports ∙ (ap (λ (x : DataSets). x.ports) is.sets ∙ is.was.port_sets)
+
+states-before : (o : Options) (e : PortEntry) (c : Core) (measured : Option Measure) (old ported decided : BoundaryClock) (before after : List (List ℕ)) (t : PortOutcome)
+    → IsServed o e c measured old ported decided before after t → states_in decided.sets.ports ≡ states_of c.ports
+states-before o e c measured old ported decided before after t is = ap states_in (sets-before o e c measured old ported decided before after t is) ∙ states_in-port_set c.ports
+
+-- the states once the entry's port took its input: its own changed
+pub states-between : (o : Options) (e : PortEntry) (c : Core) (measured : Option Measure) (old ported decided : BoundaryClock) (before after : List (List ℕ)) (t : PortOutcome) (i : ℕ) (q : KeptPort) (between : PortState)
+    → IsServed o e c measured old ported decided before after t → e.input.number ≡ suc i → i < length ported.ports.items → q ≡ get_or ported.ports.items i q → between ≡ q.engine.state
+    → set (states_in decided.sets.ports) i between ≡ states_of (core_ported o e c).ports
+states-between o e c measured old ported decided before after t i q between is number lt at between_is =
+    let there = PortsRepresent-get o.delay_filter_length ported.moment ported.ports.items (core_ported o e c).ports i q is.taken.clock.ports lt at in
+    let state : between ≡ there.0.port.state = between_is ∙ there.2.engine.state in
+    ap (λ (xs : List PortState). set xs i between) (states-before o e c measured old ported decided before after t is)
+    ∙ (ap (λ (s : PortState). set (states_of c.ports) i s) state ∙ sym (states-ported o e (core_at e c) i there.0 number there.1))
+
+-- where no decision is raised, they are those after the entry
+pub undecided : (o : Options) (e : PortEntry) (c : Core) → raises_at o e c ≡ false → core_decided o e c ≡ core_ported o e c
+undecided o e c none = rw none refl
+
+clock-served : (o : Options) (e : PortEntry) (c : Core) (measured : Option Measure) (old ported decided : BoundaryClock) (before after : List (List ℕ)) (t : PortOutcome) (d : DataSets) (scratch : DecisionScratch)
+    → IsServed o e c measured old ported decided before after t → IsStated o e c decided.sets d t.measure
+    → ClockRepresents o (record decided { sets = d; scratch = scratch }) (core_decided o e c) (last_measure (option_map {U = Measure × Held} (λ (m : Measure). (m, e.held)) t.measure) measured)
+clock-served o e c measured old ported decided before after t d scratch is measured_is =
+    let states : List PortState = states_of (core_decided o e c).ports in
     let stated : DataSets = record decided.sets { ports = with_states decided.sets.ports states } in
-    let P : List PortSet → List PortState → Type 0 = λ x y. with_states x y ≡ map port_set (core_decided o e c).ports in
-    let with : P decided.sets.ports states =
-    subst (λ (x : List PortSet). P x states) (sym (sets-before o e c measured old ported decided before after t states d is))
-    (subst (P (map port_set c.ports)) (sym is.states_are) (sets-with c.ports (core_decided o e c).ports (faces-decided o e c))) in
+    let P : List PortSet → Type 0 = λ x. with_states x states ≡ map port_set (core_decided o e c).ports in
+    let with : P decided.sets.ports = subst P (sym (sets-before o e c measured old ported decided before after t is)) (sets-with c.ports (core_decided o e c).ports (faces-decided o e c)) in
     record {
       core = record {
         moment = is.core.moment;
-        clock = measured-clock o stated d t.measure is.measured_is (record { own = is.core.clock.own; domain = is.core.clock.domain; local_time = is.core.clock.local_time });
-        master = measured-master stated d t.measure is.measured_is ∙ is.core.master;
+        clock = measured-clock o stated d t.measure measured_is (record { own = is.core.clock.own; domain = is.core.clock.domain; local_time = is.core.clock.local_time });
+        master = measured-master stated d t.measure measured_is ∙ is.core.master;
+        own = is.core.own;
         numbers = is.core.numbers;
         ports = is.core.ports;
       };
-      port_sets = measured-ports stated d t.measure is.measured_is ∙ with;
-      measure = measured-represents stated d e.held t.measure measured is.measured_is (record {
+      port_sets = measured-ports stated d t.measure measured_is ∙ with;
+      measure = measured-represents stated d e.held t.measure measured measured_is (record {
         offset = is.others.offset ∙ (ap (λ (x : DataSets). x.offset) is.sets ∙ is.was.measure.offset);
         delay = is.others.delay ∙ (ap (λ (x : DataSets). x.delay) is.sets ∙ is.was.measure.delay);
       });
     }
 
-pub yields-event : (o : Options) (e : PortEntry) (c : Core) (measured : Option Measure) (old ported decided : BoundaryClock) (before after : List (List ℕ)) (t : PortOutcome) (states : List PortState) (d : DataSets)
-    (i : ℕ) (q : KeptPort) (between : PortState) (moves : List Moved) (parent : Option PortId) (measure : Option (Measure × Held))
-    → IsServed o e c measured old ported decided before after t states d → e.input.number ≡ suc i → i < length ported.ports.items → q ≡ get_or ported.ports.items i q → between ≡ q.engine.state
-    → moves ≡ moves_from 1 (states_in decided.sets.ports) (set (states_in decided.sets.ports) i between) states → parent ≡ changed_parent old.sets.parent d.parent
+pub yields-event : (o : Options) (e : PortEntry) (c : Core) (measured : Option Measure) (old ported decided : BoundaryClock) (before after : List (List ℕ)) (t : PortOutcome) (d : DataSets) (scratch : DecisionScratch)
+    (mids : List PortState) (moves : List Moved) (parent : Option PortId) (measure : Option (Measure × Held))
+    → IsServed o e c measured old ported decided before after t → IsStated o e c decided.sets d t.measure → mids ≡ states_of (core_ported o e c).ports
+    → moves ≡ moves_from 1 (states_in decided.sets.ports) mids (states_of (core_decided o e c).ports) → parent ≡ changed_parent old.sets.parent d.parent
     → measure ≡ option_map {U = Measure × Held} (λ (m : Measure). (m, e.held)) t.measure
-    → EventYields o e c measured (record decided { sets = d }) before after (record { fate = t.fate; states = moves; parent = parent; measure = measure })
-yields-event o e c measured old ported decided before after t states d i q between moves parent measure is number lt at between_is moves_are parent_is measure_is =
-    let clock = clock-served o e c measured old ported decided before after t states d is in
-    let there = PortsRepresent-get o.delay_filter_length ported.moment ported.ports.items (core_ported o e c).ports i q is.taken.clock.ports lt at in
-    let state : between ≡ there.0.port.state = between_is ∙ there.2.engine.state in
-    let olds : states_in decided.sets.ports ≡ states_of c.ports = ap states_in (sets-before o e c measured old ported decided before after t states d is) ∙ states_in-port_set c.ports in
-    let mids : set (states_in decided.sets.ports) i between ≡ states_of (core_ported o e c).ports =
-    ap (λ (xs : List PortState). set xs i between) olds ∙ (ap (λ (s : PortState). set (states_of c.ports) i s) state ∙ sym (states-ported o e (core_at e c) i there.0 number there.1)) in
-    let C : Option (Measure × Held) → Type 0 = λ m. ClockRepresents o (record decided { sets = d }) (core_decided o e c) (last_measure m measured) in
+    → EventYields o e c measured (record decided { sets = d; scratch = scratch }) before after (record { fate = t.fate; states = moves; parent = parent; measure = measure })
+yields-event o e c measured old ported decided before after t d scratch mids moves parent measure is measured_is mids_are moves_are parent_is measure_is =
+    let clock = clock-served o e c measured old ported decided before after t d scratch is measured_is in
+    let olds = states-before o e c measured old ported decided before after t is in
+    let C : Option (Measure × Held) → Type 0 = λ m. ClockRepresents o (record decided { sets = d; scratch = scratch }) (core_decided o e c) (last_measure m measured) in
     record {
       clock = subst C (sym measure_is) clock;
       fate = is.taken.fate;
-      states = moves-known moves _ _ _ _ _ _ moves_are olds mids is.states_are;
+      states = moves-known moves _ _ _ _ _ _ moves_are olds mids_are refl;
       parent = parent_is ∙ (ap (λ (x : Master). changed_parent x.parent d.parent) is.was.core.master ∙ ap (λ (x : Master). changed_parent c.master.parent x.parent) clock.core.master);
       frames = is.taken.frames;
       measure = measure_is ∙ (is.taken.measure ∙ sym (measure-decided o e c));

@@ -2,10 +2,13 @@
 use Rattle.std.proofs.Common.{◌≡◌, ◌≢◌, ℕ, zero, suc, ◌+◌, ◌<◌, ◌≤◌, List, [], ◌∷◌, ◌++◌, length, drop, set, refl, ap, ◌∙◌, arith, append_assoc, Option, Some, inl, inr}
 use Rattle.std.specs.Prelude.{slice_get, slice_index_or}
 use Rattle.std.specs.Option.{option_map}
+use Rattle.std.proofs.lemmas.Bool.{eq-eqb}
 use Rattle.std.proofs.lemmas.Bool.Decides.{eqb_tells}
+use Rattle.std.proofs.lemmas.List.{append-nil}
 use Rattle.std.proofs.lemmas.Option.{slice_get-map}
 use Rattle.circular_buffer.proofs.Places.{slice_get-set_same, slice_get-set_other}
 use Rattle.ptp_base.specs.declared.port_state.PortState.{PortState}
+use Rattle.ptp_profile.specs.Port.PortStates.{state_number}
 use Rattle.data_sets.specs.declared.port_set.PortSet.{PortSet}
 use Rattle.bc_history.specs.declared.entry.Moved.{Moved}
 use Rattle.bc_history.specs.Phases.EntryEffects.{moves_of_port, moves_from}
@@ -101,3 +104,38 @@ stated-next zero (x ∷ sets) (y ∷ states) s state long a b = let ex : x ≡ s
 stated-next (suc i) [] states s state long a b = cc
 stated-next (suc i) (x ∷ sets) [] s state long a b = absurd (omega (arith, long))
 stated-next (suc i) (x ∷ sets) (y ∷ states) s state long a b = ap (λ xs. record x { state = y } ∷ xs) (stated-next i sets states s state (omega (arith, long)) a b)
+
+-- ---- one port alone
+
+-- a port that stays does not move
+stays : (p : ℕ) (s : PortState) → moves_of_port p s s ≡ []
+stays p s = rw (eq-eqb (state_number s) (state_number s) refl) refl
+
+-- ports that all stay do not move
+all-stay : (p : ℕ) (states : List PortState) → moves_from p states states states ≡ []
+all-stay p [] = refl
+all-stay p (s ∷ states) = rw (stays p s, all-stay (p + 1) states) refl
+
+-- only the port at an index moved, at its own event
+pub moves-own : (p at : ℕ) (olds : List PortState) (old between : PortState) → slice_get olds at ≡ Some old
+    → moves_from p olds (set olds at between) (set olds at between) ≡ moves_of_port (at + p) old between
+moves-own p at [] old between found = cc
+moves-own p zero (x ∷ olds) old between found =
+    let same : x ≡ old = cc in
+    let none : 0 + p ≡ p = omega arith in
+    rw (none, stays p between, all-stay (p + 1) olds, same) (append-nil (moves_of_port p old between ++ []) ∙ append-nil (moves_of_port p old between))
+moves-own p (suc at) (x ∷ olds) old between found =
+    let number : at + (p + 1) ≡ suc at + p = omega arith in
+    rw (stays p x, ← number) (moves-own (p + 1) at olds old between found)
+
+-- portDS with the states that are in it
+same-states : (sets : List PortSet) → with_states sets (states_in sets) ≡ sets
+same-states [] = refl
+same-states (s ∷ sets) = ap (λ xs. s ∷ xs) (same-states sets)
+
+-- only the port at an index has another state
+pub stated-own : (at : ℕ) (sets : List PortSet) (s : PortSet) (state : PortState) → slice_get sets at ≡ Some s
+    → set sets at (record s { state = state }) ≡ with_states sets (set (states_in sets) at state)
+stated-own at [] s state found = cc
+stated-own zero (x ∷ sets) s state found = let same : x ≡ s = cc in rw (same, same-states sets) refl
+stated-own (suc at) (x ∷ sets) s state found = ap (λ xs. x ∷ xs) (stated-own at sets s state found)

@@ -1,5 +1,5 @@
 -- Ports and data sets before the first entry.
-use Rattle.std.proofs.Common.{◌≡◌, ℕ, pos, suc, ◌+◌, List, [], ◌∷◌, ◌++◌, length, map, refl, sym, ap, subst, ◌∙◌, arith}
+use Rattle.std.proofs.Common.{◌≡◌, ℕ, pos, suc, ◌+◌, List, [], ◌∷◌, ◌++◌, length, map, replicate, Option, refl, sym, ap, subst, ◌∙◌, arith}
 use Rattle.std.specs.Prelude.{None}
 use Rattle.ptp_base.specs.declared.announcement.Announcement.{Announcement}
 use Rattle.ptp_base.specs.declared.port_conf.PortConf.{PortConf}
@@ -9,6 +9,9 @@ use Rattle.data_sets.specs.declared.port_set.PortSet.{PortSet}
 use Rattle.bc_history.specs.declared.scenario.Options.{Options}
 use Rattle.bc_history.specs.declared.scenario.Scenario.{Scenario}
 use Rattle.bc_history.specs.Phases.OpeningState.{open_ports, opening, local_announcement}
+use Rattle.ptp_profile.specs.Best.StateDecision.{bests_of}
+use Rattle.state_decision.specs.DeciderView.{unset}
+use Rattle.bc_ports.specs.DecisionCost.{no_bests}
 use Rattle.bc_ports.specs.OpenPorts.{ArePortsFrom, IsOpenPort, port_set_from, port_sets_from}
 use Rattle.bc_ports.specs.Representation.{PortsRepresent, ArePortsOf, ClockRepresents, port_set}
 use Rattle.bc_ports.specs.declared.hub_port.HubPort.{HubPort as KeptPort}
@@ -71,8 +74,8 @@ own_sets o own sets = record {
 }
 
 pub clock_opened : (s : Scenario) (own : Announcement) (sets : List PortSet) (d : DataSets) (n : BoundaryClock) → own ≡ local_announcement s.options → sets ≡ port_sets_from s.options 1 s.ports → d ≡ own_sets s.options own sets
-    → ArePortsFrom s.options 1 n.ports.items s.ports → n.moment ≡ 0 → ClockRepresents s.options (record n { sets = d }) (opening s).core None
-clock_opened s own sets d n own_is sets_are d_is ports moment =
+    → ArePortsFrom s.options 1 n.ports.items s.ports → n.moment ≡ 0 → n.decider.own ≡ own → ClockRepresents s.options (record n { sets = d }) (opening s).core None
+clock_opened s own sets d n own_is sets_are d_is ports moment decided =
     let o = s.options in
     let P : Announcement → List PortSet → Type 0 = λ a x. ClockRepresents o (record n { sets = own_sets o a x }) (opening s).core None in
     let Q : ℕ → Type 0 = λ m. PortsRepresent o.delay_filter_length m n.ports.items (open_ports o 1 s.ports) in
@@ -82,6 +85,7 @@ clock_opened s own sets d n own_is sets_are d_is ports moment =
         moment = moment;
         clock = record { own = refl; domain = refl; local_time = refl };
         master = refl;
+        own = decided ∙ own_is;
         numbers = ports_opened o 1 n.ports.items s.ports ports;
         ports = subst Q (sym moment) (stand_opened o 1 n.ports.items s.ports ports);
       };
@@ -89,3 +93,11 @@ clock_opened s own sets d n own_is sets_are d_is ports moment =
       measure = record { offset = refl; delay = refl };
     } in
     subst D (sym d_is) (subst (λ (a : Announcement). P a sets) (sym own_is) (subst (P (local_announcement o)) (sym sets_are) there))
+
+-- no port of a clock that opens has a best
+pub bests-opened : (confs : List PortConf) (count : ℕ) → count ≡ length confs → bests_of (replicate count unset) ≡ no_bests confs
+bests-opened confs count is = rw is (by confs)
+  where
+    by : (confs : List PortConf) → bests_of (replicate (length confs) unset) ≡ no_bests confs
+    by [] = refl
+    by (conf ∷ confs) = ap (λ (bests : List (Option Announcement)). None ∷ bests) (by confs)

@@ -1,4 +1,5 @@
-ghost use Rattle.std.specs.Prelude.{◌≡◌, ◌≢◌, ℕ, ◌≤◌, List, ◌++◌, None, IfOk};
+ghost use Rattle.std.specs.Prelude.{◌≡◌, ◌≢◌, ℕ, ◌+◌, ◌≤◌, List, ◌++◌, None, IfOk};
+ghost use Rattle.ptp_profile.specs.declared.port_event.Fate.{Fate};
 ghost use Rattle.ptp_profile.specs.Best.ForeignMasters.{fate_of_hearing};
 ghost use Rattle.ptp_profile.specs.Wire.MessageFormat.{IsSpelled};
 ghost use Rattle.bc_history.specs.Phases.PortPhase.{announcement_of, frame_fate, with_frame, frame_measure};
@@ -9,9 +10,11 @@ ghost use Rattle.bc_ports.specs.PortYield.{response_frames, BearsTime, MessageYi
 
 use crate::hub_port::HubPort;
 use bc_history::EventContext;
+use foreign_master::Steps;
 use port_engine::Frames;
 use ptp_base::{Announcement, PortId, PortState, TimeProps};
 use ptp_profile::{Body, Fate, Heard, Measure, Message, Reject, Said};
+use std::sync::ledger::Ledger;
 
 /// What a frame gave its port.
 #[derive(Clone, Copy)]
@@ -68,22 +71,25 @@ fn only(fate: Fate) -> FrameOutcome
 
 impl HubPort {
     /// An Announce. The records tell one of this clock from others.
-    fn hear(
+    fn hear<L: Ledger>(
         &mut self,
         context: &EventContext,
         message: &Message,
         origin: i64,
         said: &Said,
+        steps: &mut Steps<L>,
     ) -> FrameOutcome
         requires body { message.now.body ≡ Body.Announce origin said.now }
         ensures yields { (length : ℕ) (frames : List (List ℕ)) (h : Model)
             → PortRepresents length context.now.moment self.old h
             → MessageYields length context.now message.now self.new frames frames result h }
         ensures same { IsSamePort self.old self.new }
+        ensures uncounted { result.fate ≢ Fate.Kept → steps.new ≡ steps.old }
+        ensures counted { steps.new ≤ steps.old + 15 }
     {
         let receiver = self.records.receiver();
         let a = announcement_of(receiver, message, said);
-        let heard = self.records.hear(a, context.moment);
+        let heard = self.records.hear(a, context.moment, steps);
         only(fate_of_hearing(heard))
     }
 
@@ -115,11 +121,12 @@ impl HubPort {
     }
 
     /// A message that a port which is not FAULTY received.
-    fn take_message(
+    fn take_message<L: Ledger>(
         &mut self,
         context: &EventContext,
         message: &Message,
         frames: &mut Frames,
+        steps: &mut Steps<L>,
     ) -> FrameOutcome
         requires spelled { IsSpelled message.now }
         requires reading { IsTime context.now.reading }
@@ -129,9 +136,11 @@ impl HubPort {
             → MessageYields length context.now message.now self.new
             frames.old.items frames.new.items result h }
         ensures same { IsSamePort self.old self.new }
+        ensures uncounted { result.fate ≢ Fate.Kept → steps.new ≡ steps.old }
+        ensures counted { steps.new ≤ steps.old + 15 }
     {
         match &message.body {
-            Body::Announce { origin, said } => self.hear(context, message, *origin, said),
+            Body::Announce { origin, said } => self.hear(context, message, *origin, said, steps),
             Body::Sync { .. }
             | Body::DelayReq { .. }
             | Body::FollowUp { .. }
@@ -145,11 +154,12 @@ impl HubPort {
     }
 
     /// A frame that was read.
-    pub fn take_frame(
+    pub fn take_frame<L: Ledger>(
         &mut self,
         context: &EventContext,
         read: &Result<Message, Reject>,
         frames: &mut Frames,
+        steps: &mut Steps<L>,
     ) -> FrameOutcome
         requires spelled { IfOk read.now IsSpelled }
         requires reading { IsTime context.now.reading }
@@ -169,13 +179,15 @@ impl HubPort {
             ≡ frames.old.items
             ++ response_frames domain context.now.reading read.now result.fate h.port }
         ensures same { IsSamePort self.old self.new }
+        ensures uncounted { result.fate ≢ Fate.Kept → steps.new ≡ steps.old }
+        ensures counted { steps.new ≤ steps.old + 15 }
     {
         if self.engine.state() == PortState::Faulty {
             return only(Fate::Asleep);
         }
         match read {
             Err(reject) => only(Fate::Dropped(*reject)),
-            Ok(message) => self.take_message(context, message, frames),
+            Ok(message) => self.take_message(context, message, frames, steps),
         }
     }
 }

@@ -1,5 +1,5 @@
 ghost use Rattle.ptp_base.specs.declared.time.TheConstants.{TICK_MAX};
-ghost use Rattle.std.specs.Prelude.{◌≡◌, ℕ, ◌≤◌, List, Some, None};
+ghost use Rattle.std.specs.Prelude.{◌≡◌, ℕ, ◌+◌, ◌≤◌, List, Some, None, false};
 ghost use Rattle.bc_history.specs.declared.scenario.Options.{Options};
 ghost use Rattle.bc_history.specs.Phases.PortPhase.{after_cause, after_report, is_report_counted, report_event, timer_event};
 ghost use Rattle.bc_history.specs.Phases.DecisionPhase.{is_kept};
@@ -11,10 +11,12 @@ ghost use Rattle.bc_ports.specs.PortYield.{PortYields, sender_of};
 use crate::hub_port::HubPort;
 use bc_history::{EventContext, Outcome, PortHappening, PortInput};
 use data_sets::DataSets;
+use foreign_master::Steps;
 use port_engine::Frames;
 use ptp_base::{Octets, PortId};
 use ptp_profile::{Action, Fate, Measure, Message, PortEvent, Reject, Timer};
 use ptp_wire::decode;
+use std::sync::ledger::Ledger;
 
 /// What a port made of an input, beside what the port is then and the frames that it sent.
 #[derive(Clone, Copy)]
@@ -119,12 +121,13 @@ impl HubPort {
     }
 
     /// A frame arrives.
-    fn take_octets(
+    fn take_octets<L: Ledger>(
         &mut self,
         context: &EventContext,
         sets: &DataSets,
         octets: &Octets,
         frames: &mut Frames,
+        steps: &mut Steps<L>,
     ) -> PortOutcome
         requires reading { IsTime context.now.reading }
         requires room { 2 ≤ frames.old.spare }
@@ -133,9 +136,11 @@ impl HubPort {
             PortYields o context.now sets.now tick (PortHappening.Frame octets.now) self.new
             frames.old.items frames.new.items result h }
         ensures same { IsSamePort self.old self.new }
+        ensures uncounted { result.raises ≡ false → steps.new ≡ steps.old }
+        ensures counted { steps.new ≤ steps.old + 15 }
     {
         let read = decode(octets.items(), sets.domain);
-        let outcome = self.take_frame(context, &read, frames);
+        let outcome = self.take_frame(context, &read, frames, steps);
         PortOutcome {
             fate: Some(outcome.fate),
             measure: outcome.measure,
@@ -199,12 +204,13 @@ impl HubPort {
     }
 
     /// The port takes an input of its own.
-    pub fn take(
+    pub fn take<L: Ledger>(
         &mut self,
         context: &EventContext,
         sets: &DataSets,
         input: &PortInput,
         frames: &mut Frames,
+        steps: &mut Steps<L>,
     ) -> PortOutcome
         requires moment { context.now.moment ≤ TICK_MAX }
         requires tick { input.now.tick ≤ TICK_MAX }
@@ -215,9 +221,11 @@ impl HubPort {
             PortYields o context.now sets.now input.now.tick input.now.what self.new
             frames.old.items frames.new.items result h }
         ensures same { IsSamePort self.old self.new }
+        ensures uncounted { result.raises ≡ false → steps.new ≡ steps.old }
+        ensures counted { steps.new ≤ steps.old + 15 }
     {
         match &input.what {
-            PortHappening::Frame(octets) => self.take_octets(context, sets, octets, frames),
+            PortHappening::Frame(octets) => self.take_octets(context, sets, octets, frames, steps),
             PortHappening::Timed(timer) => {
                 self.take_timer(context, sets, input.tick, *timer, frames)
             }

@@ -1,22 +1,24 @@
 ghost use Rattle.ptp_base.specs.declared.limits.TheConstants.{STEPS_END};
 ghost use Rattle.ptp_base.specs.declared.time.TheConstants.{TICK_MAX};
-ghost use Rattle.std.specs.Prelude.{◌≡◌, ℕ, ◌≤◌, ◌<◌, Some, IfSome};
+ghost use Rattle.std.specs.Prelude.{◌≡◌, ℕ, ◌+◌, ◌≤◌, ◌<◌, Option, Some, IfSome, false};
 ghost use Rattle.bc_history.specs.Phases.PortPhase.{after_cause, forgets, kept_after};
 ghost use Rattle.bc_history.specs.Phases.DecisionPhase.{best_of, with_renewal, newest_sender, is_sent_by};
 ghost use Rattle.bc_history.specs.Phases.HubPort.{HubPort as Model};
 ghost use Rattle.ptp_profile.specs.Port.Port.{after_event};
 ghost use Rattle.ptp_profile.specs.Port.PortStates.{is_dependent};
+ghost use Rattle.bc_ports.specs.DecisionCost.{may_pass};
 ghost use Rattle.bc_ports.specs.Representation.{PortRepresents, IsSamePort};
 
 pub(crate) mod frame;
 pub(crate) mod input;
 
 use bc_history::EventContext;
-use foreign_master::Records;
+use foreign_master::{Records, Steps};
 use port_engine::PortEngine;
 use port_fsm::next;
 use ptp_base::{Announcement, Code, PortId, PortState};
 use ptp_profile::PortEvent;
+use std::sync::ledger::Ledger;
 
 /// What is kept of one port: its engine, and the Announces that it heard.
 #[derive(Drop)]
@@ -69,13 +71,16 @@ fn is_sent_by(best: &Option<Announcement>, sender: PortId) -> bool
 }
 
 impl HubPort {
-    /// Erbest (IEEE 1588-2019, 9.3.2).
-    pub fn best(&self, moment: u64) -> Option<Announcement>
+    /// Erbest (IEEE 1588-2019, 9.3.2). It takes comparisons only where a record may have left.
+    pub fn best<L: Ledger>(&self, moment: u64, steps: &mut Steps<L>) -> Option<Announcement>
         ensures best { (length : ℕ) (h : Model) → PortRepresents length moment self.now h →
             result ≡ best_of moment h }
         ensures near { IfSome result (λ a. a.steps < STEPS_END) }
+        ensures settled { (length : ℕ) (h : Model) → PortRepresents length moment self.now h →
+            may_pass moment h ≡ false → steps.new ≡ steps.old }
+        ensures counted { steps.new ≤ steps.old + 15 }
     {
-        self.records.best(moment)
+        self.records.best(moment, steps)
     }
 
     /// The Announces are forgotten, where the event asks for it.
@@ -119,15 +124,15 @@ impl HubPort {
         self.engine.enter(new, cause, is_new, moment, steps);
     }
 
-    /// After a kept Announce of the sender and its decision.
-    pub fn renew(&mut self, moment: u64, sender: PortId)
+    /// After a kept Announce of the sender and its decision, by which this is the port's best.
+    pub fn renew(&mut self, moment: u64, sender: PortId, best: &Option<Announcement>)
         requires moment { moment ≤ TICK_MAX }
         ensures port { (length : ℕ) (h : Model) → PortRepresents length moment self.old h →
-            newest_sender h.kept ≡ Some sender →
+            best.now ≡ best_of moment h → newest_sender h.kept ≡ Some sender →
             PortRepresents length moment self.new (with_renewal moment h) }
         ensures same { IsSamePort self.old self.new }
     {
-        if is_dependent(self.engine.state()) && is_sent_by(&self.best(moment), sender) {
+        if is_dependent(self.engine.state()) && is_sent_by(best, sender) {
             self.engine.renew(moment);
         }
     }

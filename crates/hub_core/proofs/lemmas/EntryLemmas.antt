@@ -121,7 +121,7 @@ pub record IsSameMachine (m new : HubParts) : Type 0 where
   pub sound : IsSound new.core
   pub ports : new.core.ports.len ≡ m.core.ports.len
   pub table : IsSameTable m.roles new.roles
-  pub listed : length new.states.items ≡ m.core.ports.len
+  pub places : m.core.ports.len ≤ length new.states.items + new.states.spare
   pub drafts : length m.drafts.items + m.drafts.spare ≤ length new.drafts.items + new.drafts.spare
 
 -- one entry more is one step more
@@ -198,7 +198,8 @@ machine-next s entries e q seen m new frames made orders was is same notices =
     let went = stepped s.options h e q seen new frames made orders is in
     let P : State → Type 0 = λ g. PartsRepresent s new g in
     let ports = same.ports ∙ was.ports in
-    let listed = same.listed ∙ was.ports in
+    let count = was.ports in
+    let places = same.places in
     subst P (sym (state-next s entries e seen)) (record {
       clocks = same.clocks ∙ was.clocks;
       core = went.core;
@@ -208,7 +209,7 @@ machine-next s entries e q seen m new frames made orders was is same notices =
       rows = same.table.rows ∙ was.rows;
       openings = same.table.openings ∙ was.openings;
       stamps = same.table.clocks ∙ was.stamps;
-      places = omega (arith, listed);
+      places = omega (arith, places, count);
       notices = record { terms = notices.terms; followers = subst (λ (fs : List Follower). FollowersRepresent s.options new.notices.followers fs) (sym (followers-stepped s.options h e q seen is.there is.held is.reading)) notices.followers };
       drafts = let before = was.drafts in let more = same.drafts in omega (arith, before, more);
     })

@@ -1,8 +1,8 @@
 -- A hub before and after an event.
 use Rattle.std.proofs.Common.{Bool, true, false, cond, None, option_map, ◌≡◌, ◌≢◌, ℕ, zero, suc, ◌+◌, ◌-◌, ◌%◌, ◌<◌, ◌≤◌, List, [], ◌∷◌, ◌++◌, length, reverse, refl, sym, ap, subst, ◌∙◌, arith, Option, Some, length-append}
-use Rattle.std.specs.Prelude.{slice_get, slice_set, is_some, option_and_then, ℤ, ◌+ℤ◌, All, IfSome, OnErr, OnOk, Result, Ok, Err}
+use Rattle.std.specs.Prelude.{slice_get, slice_index_or, slice_set, is_some, option_and_then, ℤ, ◌+ℤ◌, All, IfSome, OnErr, OnOk, Result, Ok, Err}
 use Rattle.std.proofs.lemmas.Int.{ints}
-use Rattle.std.proofs.lemmas.List.{length-reverse}
+use Rattle.std.proofs.lemmas.List.{length-reverse, reverse-append, reverse-reverse}
 use Rattle.std.proofs.lemmas.List.Elements.{All-cons, All-nil}
 use Rattle.model_clock.specs.declared.state.ClockState.{ClockState}
 use Rattle.model_clock.specs.Clock.{clock_at, held_time, reading, time_gained}
@@ -27,7 +27,7 @@ use Rattle.bc_history.specs.Run.History.{Continues, Follows, IsHistory}
 use Rattle.bc_history.proofs.lemmas.ArrivalLemmas.{measures-read}
 use Rattle.ptp_profile.specs.declared.seats.Held.{Held}
 use Rattle.ptp_profile.specs.declared.timing.Measure.{Measure}
-use Rattle.bc_history.specs.Phases.Inputs.{history_input, is_read, port_at, port_input, port_of, tick_of, IsReadTime, IsTime}
+use Rattle.bc_history.specs.Phases.Inputs.{event_of, history_input, is_read, port_at, port_input, port_of, tick_of, IsReadTime, IsTime}
 use Rattle.bc_history.specs.Run.NextInputs.{IsDue}
 use Rattle.bc_history.specs.Phases.OpeningState.{opening}
 use Rattle.bc_history.specs.Scenario.ScenarioRules.{IsScenario}
@@ -35,6 +35,12 @@ use Rattle.bc_history.specs.Phases.State.{State}
 use Rattle.bc_history.specs.Phases.HubPort.{HubPort}
 use Rattle.bc_history.specs.Phases.QueryAnswers.{requests_after}
 use Rattle.bc_history.specs.Phases.Step.{queries_after, state_of, step}
+use Rattle.ptp_profile.specs.Best.StateDecision.{bests_of}
+use Rattle.bc_ports.specs.DecisionCost.{no_bests}
+use Rattle.bc_ports.specs.declared.boundary_clock.BoundaryClock.{BoundaryClock}
+use Rattle.hub_core.specs.DecisionHistory.{decided_bests}
+use Rattle.hub_core.specs.HubCost.{event_at}
+use Rattle.hub_core.proofs.lemmas.DecisionHistoryLemmas.{bests-opened, event-after}
 use Rattle.bc_ports.specs.declared.hub_port.HubPort.{HubPort as KeptPort}
 use Rattle.bc_ports.proofs.lemmas.RepresentationLemmas.{PortsRepresent-some}
 use Rattle.discipline_seat.specs.SeatsView.{Seats, with_entry as with_change_entry}
@@ -51,9 +57,9 @@ use Rattle.hub_core.proofs.lemmas.PortEntryLemmas.{due-port, history-again, plac
 
 -- ---- before the first entry
 
-pub hub-opened : (i : Inside) → i.entries ≡ [] → IsScenario i.scenario.value → PartsRepresent i.scenario.value i.machine (opening i.scenario.value) → i.machine.roles.generation.gener ≡ 0 → i.asked ≡ 0 → i.sequence ≡ 0 → windows_of i.windows ≡ [] → IsHub i
+pub hub-opened : (i : Inside) → i.entries ≡ [] → IsScenario i.scenario.value → PartsRepresent i.scenario.value i.machine (opening i.scenario.value) → i.machine.roles.generation.gener ≡ 0 → i.asked ≡ 0 → i.sequence ≡ 0 → windows_of i.windows ≡ [] → bests_of i.machine.core.decider.bests ≡ no_bests i.scenario.value.ports → IsHub i
 unfolding state_of
-hub-opened i none rules machine gener asked sequence given =
+hub-opened i none rules machine gener asked sequence given bests =
     let s = i.scenario.value in
     let H : List Entry → Type 0 = λ es. IsHistory s es in
     let M : List Entry → Type 0 = λ es. PartsRepresent s i.machine (state_of s es) in
@@ -70,6 +76,7 @@ hub-opened i none rules machine gener asked sequence given =
       few_asked = omega (arith, asked);
       asked = subst Q empty asked;
       sequence = subst R empty sequence;
+      decided = bests ∙ sym (bests-opened s) ∙ ap (λ (es : List Entry). decided_bests s es) empty;
     }
 
 -- ---- rooms
@@ -107,8 +114,8 @@ logs-roomier old new more = ap (λ (r : RolesView). r.seats.logs) more.same
 
 -- the same history with another machine that stands for it
 pub hub-same : (i j : Inside) → IsHub i → j.scenario.value ≡ i.scenario.value → j.entries ≡ i.entries → j.asked ≡ i.asked → j.sequence ≡ i.sequence → j.windows ≡ i.windows
-    → PartsRepresent i.scenario.value j.machine (state_of i.scenario.value (history_of i)) → j.machine.roles.generation.gener ≡ i.machine.roles.generation.gener → IsHub j
-hub-same i j was scenario entries asked sequence windows machine gener =
+    → PartsRepresent i.scenario.value j.machine (state_of i.scenario.value (history_of i)) → j.machine.roles.generation.gener ≡ i.machine.roles.generation.gener → j.machine.core ≡ i.machine.core → IsHub j
+hub-same i j was scenario entries asked sequence windows machine gener core =
     let history : history_of i ≡ history_of j = ap (λ (es : List Entry). reverse es) (sym entries) in
     let long = ap (λ (es : List Entry). length es) entries in
     let S : Scenario → Type 0 = λ s. IsScenario s in
@@ -130,6 +137,7 @@ hub-same i j was scenario entries asked sequence windows machine gener =
       few_asked = omega (arith, was.few_asked, asked, long);
       asked = subst Q' history (subst Q (sym scenario) (asked ∙ was.asked));
       sequence = subst R' history (subst R (sym scenario) (sequence ∙ was.sequence));
+      decided = ap (λ (n : BoundaryClock). bests_of n.decider.bests) core ∙ (was.decided ∙ (ap (λ (s : Scenario). decided_bests s (history_of i)) (sym scenario) ∙ ap (λ (es : List Entry). decided_bests j.scenario.value es) history));
     }
 
 -- ---- one entry more
@@ -221,6 +229,18 @@ pub drafted : (es : List Entry) (draft e : Entry) → slice_set (es ++ draft ∷
 drafted [] draft e = refl
 drafted (x ∷ es) draft e = ap (λ (xs : List Entry). x ∷ xs) (drafted es draft e)
 
+behind-all : (es : List Entry) (e d : Entry) → slice_index_or (es ++ e ∷ []) (length es) d ≡ e
+behind-all [] e d = refl
+behind-all (x ∷ es) e d = behind-all es e d
+
+-- the newest entry stands at the end
+pub newest-last : (es before : List Entry) (e d : Entry) (n : ℕ) → n ≡ length es → reverse es ≡ e ∷ before → slice_index_or es (n - 1) d ≡ e
+newest-last es before e d n long is =
+    let turned : es ≡ reverse before ++ e ∷ [] = sym (reverse-reverse es) ∙ (ap (λ (xs : List Entry). reverse xs) is ∙ reverse-append (e ∷ []) before) in
+    let count = long ∙ (ap (λ (xs : List Entry). length xs) turned ∙ length-append (reverse before) (e ∷ [])) in
+    let last : n - 1 ≡ length (reverse before) = omega (arith, count) in
+    ap (λ (xs : List Entry). slice_index_or xs (n - 1) d) turned ∙ (ap (λ (k : ℕ). slice_index_or (reverse before ++ e ∷ []) k d) last ∙ behind-all (reverse before) e d)
+
 -- the input as one of a port is due as it is one of the history
 pub own-due : (s : Scenario) (h : State) (input : Input) (p : PortInput) → port_input input ≡ Some p → IsDue s h input → IsDue s h (history_input p)
 own-due s h input p own due = subst (λ (x : Input). IsDue s h x) (sym (history-again input p own)) due
@@ -275,6 +295,8 @@ pub record HasTakenOne (i j : Inside) (input : Input) (logs : List (List LogEntr
   pub logs_before : logs ≡ i.machine.roles.seats.logs
   pub logs_after : j.machine.roles.seats.logs ≡ with_orders logs entry.effects.orders
   pub windows : j.windows ≡ i.windows
+  pub decided : bests_of i.machine.core.decider.bests ≡ decided_bests i.scenario.value (history_of i)
+      → bests_of j.machine.core.decider.bests ≡ decided_bests i.scenario.value (entry ∷ history_of i)
 
 history-one : (i j : Inside) (input : Input) (logs : List (List LogEntry)) (entry : Entry) → HasTakenOne i j input logs entry → history_of j ≡ entry ∷ history_of i
 history-one i j input logs entry is = ap (λ (es : List Entry). reverse es) is.entries ∙ reverse_push i.entries entry
@@ -307,6 +329,7 @@ hub-next i j input logs entry was few due within is =
       few_asked = omega (arith, is.asked, one, was.few_asked, more);
       asked = move (λ x es. j.asked ≡ (state_of x es).queries) (is.asked ∙ ap (λ (n : ℕ). queries_after input n) was.asked ∙ sym asked);
       sequence = move (λ x es. j.sequence ≡ (state_of x es).requests % 65536) (is.sequence h.requests was.sequence ∙ sym sequence);
+      decided = move (λ x es. bests_of j.machine.core.decider.bests ≡ decided_bests x es) (is.decided was.decided);
     }
 
 -- a fact of what may be there
@@ -345,7 +368,7 @@ reading-taken i j input logs entry is =
     newest-one i j input logs entry is ∙ ap (λ (ls : List (List LogEntry)). input_seen i.scenario.value ls input) is.logs_before
 
 -- the entry is the one that the input makes with that reading
-entry-taken : (i j : Inside) (input : Input) (logs : List (List LogEntry)) (entry : Entry) → HasTakenOne i j input logs entry → entry ≡ entry_by (seen_of i) input (newest_seen (history_of j))
+pub entry-taken : (i j : Inside) (input : Input) (logs : List (List LogEntry)) (entry : Entry) → HasTakenOne i j input logs entry → entry ≡ entry_by (seen_of i) input (newest_seen (history_of j))
 entry-taken i j input logs entry is =
     let s = i.scenario.value in
     let before = history_of i in
@@ -358,6 +381,13 @@ hub-taken i j input logs entry is =
     let history = history-one i j input logs entry is ∙ ap (λ (e : Entry). e ∷ history_of i) by in
     let logs_are = is.logs_after ∙ (ap (λ (ls : List (List LogEntry)). with_orders ls entry.effects.orders) is.logs_before ∙ ap (λ (e : Entry). with_orders i.machine.roles.seats.logs e.effects.orders) by) in
     same-hub _ _ _ _ _ _ _ _ is.scenario history logs_are (ap windows_of is.windows)
+
+-- the event of the entry is that of the input with its reading
+pub event-taken : (i j : Inside) (input : Input) (logs : List (List LogEntry)) (entry : Entry) → HasTakenOne i j input logs entry → event_of entry ≡ event_at (seen_of i) input
+event-taken i j input logs entry is =
+    let s = i.scenario.value in
+    ap (λ (e : Entry). event_of e) is.served.entry_is ∙ event-after s (history_of i) input (input_seen s logs input)
+    ∙ ap (λ (ls : List (List LogEntry)). event_at (record { scenario = s; entries = history_of i; logs = ls; windows = windows_of i.windows }) input) is.logs_before
 
 -- what the event made of the hub, by what contracts see of it before and after
 pub hub-yields : (i j : Inside) (input : Input) (logs : List (List LogEntry)) (entry : Entry) (old : HubState) (effects : Effects) → HasTakenOne i j input logs entry → IsHub j → seen_of i ≡ old → effects ≡ entry.effects

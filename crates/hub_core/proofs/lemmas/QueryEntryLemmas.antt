@@ -22,6 +22,9 @@ use Rattle.data_sets.specs.declared.port_set.PortSet.{PortSet}
 use Rattle.data_sets.specs.DataSetsView.{master_in}
 use Rattle.pmc_query.specs.AnsweredSets.{answering, answering_port}
 use Rattle.hub_core.specs.EffectParts.{query_entry}
+use Rattle.ptp_profile.specs.Best.StateDecision.{bests_of}
+use Rattle.ptp_profile.specs.declared.port_best.PortBest.{PortBest}
+use Rattle.hub_core.proofs.lemmas.DecisionHistoryLemmas.{bests-stay}
 use Rattle.hub_core.specs.HubParts.{PartsRepresent, PartsYield}
 use Rattle.hub_core.specs.HubView.{IsHub, history_of}
 use Rattle.hub_core.specs.declared.hub.Hub.TheInside.{Inside}
@@ -102,6 +105,7 @@ pub record HasReplied (i j : Inside) (tick : ℕ) (text : List ℕ) (reply : Rep
   pub ports : j.machine.core.ports.len ≡ i.machine.core.ports.len
   pub sound : IsSound j.machine.core
   pub clock : (o : Options) (c : Core) (measured : Option Measure) → ClockRepresents o i.machine.core c measured → ClockRepresents o j.machine.core (at_moment tick c) measured
+  pub bests : j.machine.core.decider.bests ≡ i.machine.core.decider.bests
   pub entries : j.entries ≡ i.entries ++ query_entry (Query tick text) at reply.asked reply.answers ∷ []
 
 pub query-taken : (i j : Inside) (tick : ℕ) (text : List ℕ) (reply : Reply) (at : ℕ) → IsHub i → HasReplied i j tick text reply at
@@ -130,4 +134,5 @@ query-taken i j tick text reply at was is =
       gener = omega (arith, gener);
       logs_before = refl;
       logs_after = ap (λ (m : HubParts). m.roles.seats.logs) is.machine;
+      decided = λ before_it. ap (λ (bests : List PortBest). bests_of bests) is.bests ∙ (before_it ∙ sym (bests-stay s before entry refl));
     }

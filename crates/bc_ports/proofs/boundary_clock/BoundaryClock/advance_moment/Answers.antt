@@ -1,4 +1,4 @@
-use Rattle.std.proofs.Common.{◌≡◌, ◌∙◌, ◌≤◌, max, ap, arith, subst, ℕ}
+use Rattle.std.proofs.Common.{◌∙◌, ◌≤◌, max, ap, arith, ℕ}
 use Rattle.bc_ports.proofs.lemmas.RepresentationLemmas.{PortsRepresent-later}
 use Rattle.bc_ports.proofs.boundary_clock.BoundaryClock.advance_moment.Goals as goal
 
@@ -13,6 +13,7 @@ returns-clause-clock c = λ o core measured is.
         moment = moment ∙ ap (λ (m : ℕ). max m c.args.tick) before;
         clock = is.core.clock;
         master = is.core.master;
+        own = is.core.own;
         numbers = is.core.numbers;
         ports = PortsRepresent-later o.delay_filter_length n.moment c.max-self.result n.ports.items core.ports le is.core.ports;
       };

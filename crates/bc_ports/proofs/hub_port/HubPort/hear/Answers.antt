@@ -8,7 +8,7 @@ use Rattle.bc_ports.proofs.lemmas.FrameLemmas.{fate-heard, stands-heard, heard-u
 use Rattle.bc_ports.proofs.hub_port.HubPort.hear.Goals as goal
 
 pub returns-clause-yields : goal.returns-clause-yields
-returns-clause-yields c = λ length frames h s.
+returns-clause-yields g c = λ length frames h s.
     let receiver_is = c.receiver-receiver.ensures ∙ s.receiver in
     let fate_is = c.only.ensures.fate ∙ c.fate_of_hearing.ensures in
     let a_is = c.announcement_of-a.ensures ∙ ap (λ (id : PortId). announcement_of id c.args.message.now c.args.said.now) receiver_is in

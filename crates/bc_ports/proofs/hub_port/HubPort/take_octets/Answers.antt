@@ -7,7 +7,7 @@ use Rattle.bc_ports.proofs.lemmas.YieldLemmas.{IsFrameTaken, reads-domain, yield
 use Rattle.bc_ports.proofs.hub_port.HubPort.take_octets.Goals as goal
 
 pub returns-clause-yields : goal.returns-clause-yields
-returns-clause-yields c = λ o tick h clock s.
+returns-clause-yields g c = λ o tick h clock s.
     let n = o.delay_filter_length in
     let read_is : c.decode-read.result ≡ read_frame o c.args.octets.now =
     c.decode-read.ensures.exact ∙ (ap (λ (d : ℕ). decode_result d c.items.result.now) clock.domain ∙ ap (λ (b : List ℕ). decode_result o.domain_number b) c.items.ensures) in

@@ -16,4 +16,4 @@ invariant_of-self-2 c =
     (machine-exchanged i.scenario.value (record { port_clocks = i.machine.port_clocks; core = i.machine.core; roles = c.reserve.new.self; states = i.machine.states; notices = i.machine.notices; drafts = i.machine.drafts })
     h c.adjust.new.self c.adjust.result c.args.held.clock _ roomy
     (c.adjust.ensures.history h.roles roomy.roles) c.adjust.ensures.kept c.adjust.ensures.taken c.adjust.ensures.same)
-    (ap (λ (r : RolesView). r.generation.gener) c.adjust.ensures.kept ∙ gener-roomier i.machine.roles c.reserve.new.self more)
+    (ap (λ (r : RolesView). r.generation.gener) c.adjust.ensures.kept ∙ gener-roomier i.machine.roles c.reserve.new.self more) refl

@@ -43,6 +43,7 @@ invariant_of-self-2 c =
       ports = ap (λ (n : BoundaryClock). n.ports.len) c.advance_moment.ensures.exact;
       sound = c.advance_moment.ensures.sound;
       clock = c.advance_moment.ensures.clock;
+      bests = ap (λ (n : BoundaryClock). n.decider.bests) c.advance_moment.ensures.exact;
       entries = c.in_ok-push.ensures.ok ∙ ap (λ (e : Entry). i.entries ++ e ∷ []) c.query_entry.ensures;
     } in
     let taken = query-taken i j c.args.tick c.args.text reply c.max-moment.result c.self.invariant replied in
@@ -79,6 +80,7 @@ returns-clause-yields c =
       ports = ap (λ (n : BoundaryClock). n.ports.len) c.advance_moment.ensures.exact;
       sound = c.advance_moment.ensures.sound;
       clock = c.advance_moment.ensures.clock;
+      bests = ap (λ (n : BoundaryClock). n.decider.bests) c.advance_moment.ensures.exact;
       entries = c.in_ok-push.ensures.ok ∙ ap (λ (e : Entry). i.entries ++ e ∷ []) c.query_entry.ensures;
     } in
     let taken = query-taken i j c.args.tick c.args.text reply c.max-moment.result c.self.invariant replied in

@@ -2,7 +2,6 @@ use Rattle.std.proofs.Common.{rules, w64, to_z, of_z, ℤ, ◌≡◌, ◌∙◌,
 use Rattle.std.specs.Prelude.{All}
 use Rattle.std.proofs.lemmas.Int.{to_z-of_z}
 use Rattle.std.proofs.lemmas.List.{length-map}
-use Rattle.ptp_profile.specs.Best.MasterData.{Master}
 use Rattle.bc_history.specs.declared.entry.Effects.{Effects}
 use Rattle.bc_history.specs.declared.entry.Entry.{Entry}
 use Rattle.bc_history.specs.declared.entry.Seen.{Seen}
@@ -13,7 +12,7 @@ use Rattle.bc_history.specs.declared.scenario.Options.{Options}
 use Rattle.bc_history.specs.declared.scenario.Scenario.{Scenario}
 use Rattle.bc_history.specs.Scenario.ScenarioRules.{AreOptions}
 use Rattle.ptp_base.specs.declared.time.TheConstants.{TICK_MAX}
-use Rattle.bc_history.specs.Phases.EntryEffects.{entry_after}
+use Rattle.bc_history.specs.Phases.EntryEffects.{entry_after, event}
 use Rattle.bc_history.specs.Phases.Inputs.{history_input, port_at}
 use Rattle.bc_history.specs.Phases.RolePhase.{after_roles}
 use Rattle.bc_history.specs.Phases.State.{State}
@@ -26,10 +25,16 @@ use Rattle.hub_core.specs.EffectParts.{effects_with, sent_by}
 use Rattle.hub_core.specs.HubParts.{IsAt, PartsRepresent, clocks_by}
 use Rattle.hub_core.specs.EffectRooms.{AreFew, IsShort}
 use Rattle.hub_core.specs.declared.hub_parts.HubParts.{HubParts}
-use Rattle.hub_core.proofs.lemmas.PortEntryLemmas.{IsAtPort, IsPlaced, clock-is, clock-there, clocks-there, due-port, due-tick, placed-at, seen-is}
+use Rattle.ptp_profile.specs.Best.StateDecision.{bests_of}
+use Rattle.bc_history.specs.declared.entry.Input.{Input}
+use Rattle.bc_history.specs.Run.NextInputs.{IsDue}
+use Rattle.hub_core.proofs.lemmas.DecisionHistoryLemmas.{IsPortEntry, bests-next, counted-next}
+use Rattle.hub_core.proofs.lemmas.RolesStayLemmas.{told-of}
+use Rattle.hub_core.proofs.lemmas.PortEntryLemmas.{IsAtPort, entry-is, IsPlaced, clock-is, clock-there, clocks-ports, clocks-there, due-port, due-tick, placed-at, seen-is}
 use Rattle.hub_core.proofs.lemmas.EffectRoomLemmas.{few-frames, few-moves, sends-known, short-frames}
 use Rattle.hub_core.proofs.lemmas.EntryLemmas.{IsMade, clocks-decided, entry-made, frames-few, machine-next}
 use Rattle.hub_core.proofs.lemmas.PortlessEntryLemmas.{notices-clocks, notices-few}
+use Rattle.hub_core.proofs.hub_parts.HubParts.serve.Given.{Over}
 use Rattle.hub_core.proofs.hub_parts.HubParts.serve.Goals as goal
 
 -- the port of the input
@@ -52,24 +57,24 @@ clock-below m p w clock at =
     omega (arith, there, is, w.machine.stamps)
 
 pub index-clock-requires : goal.index-clock-requires
-index-clock-requires c =
+index-clock-requires g c =
     let w = c.requires.at in
     let placed = port-placed c.args.self.now c.args.input w in
     let long = ap (λ (cs : List ℕ). length cs) w.machine.clocks ∙ length-map w.scenario.ports _ in
     omega (arith, placed.some, placed.few, long, c.args.self.now.port_clocks.ok.0)
 
 pub seen-seen-requires-clause-there : goal.seen-seen-requires-clause-there
-seen-seen-requires-clause-there c = clock-below c.args.self.now c.args.input c.requires.at c.index-clock.result.now c.index-clock.ensures
+seen-seen-requires-clause-there g c = clock-below c.args.self.now c.args.input c.requires.at c.index-clock.result.now c.index-clock.ensures
 
 pub held-requires : goal.held-requires
-held-requires c = record { there = clock-below c.args.self.now c.args.input c.requires.at c.index-clock.result.now c.index-clock.ensures }
+held-requires g c = record { there = clock-below c.args.self.now c.args.input c.requires.at c.index-clock.result.now c.index-clock.ensures }
 
 -- a run ends at a tick that a clock may have
 ends_in_time : (o : Options) → AreOptions o → o.duration ≤ TICK_MAX
 ends_in_time o ranges = search (rules, ranges)
 
 pub serve-outcome-requires-clause-among : goal.serve-outcome-requires-clause-among
-serve-outcome-requires-clause-among c =
+serve-outcome-requires-clause-among g c =
     let w = c.requires.at in
     let placed = port-placed c.args.self.now c.args.input w in
     let tick = due-tick w.scenario (state_of w.scenario w.entries) c.args.input w.due in
@@ -81,15 +86,15 @@ serve-outcome-requires-clause-among c =
       reading = subst (λ (z : ℤ). IsTime z) (sym reading) (c.seen-seen.ensures.early, c.seen-seen.ensures.late);
     }
 
-pub advance-orders-requires-clause-placed : goal.advance-orders-requires-clause-placed
-advance-orders-requires-clause-placed c =
+pub advance_roles-orders-requires-clause-placed : goal.advance_roles-orders-requires-clause-placed
+advance_roles-orders-requires-clause-placed g c =
     let w = c.requires.at in
     let P : List ℕ → Type 0 = λ cs. All (λ clock. clock < length c.args.self.now.roles.stamps) cs in
     let N : ℕ → Type 0 = λ n. All (λ clock. clock < n) (clocks_by w.scenario) in
     subst P (sym (c.deref.ensures.value ∙ w.machine.clocks)) (subst N (sym w.machine.stamps) (clocks-there w.scenario w.rules))
 
 pub sends_of-requires : goal.sends_of-requires
-sends_of-requires c =
+sends_of-requires g c =
     let w = c.requires.at in
     let s = w.scenario in
     let h = state_of s w.entries in
@@ -101,32 +106,32 @@ sends_of-requires c =
     record { empty = c.requires.rooms.sends.empty; places = omega (arith, few, c.requires.rooms.sends.places) }
 
 pub post-requires-clause-there : goal.post-requires-clause-there
-post-requires-clause-there c =
+post-requires-clause-there g c =
     let w = c.requires.at in
     let few = notices-clocks w.scenario c.args.self.now w.entries w.machine in
-    omega (arith, few, c.advance-orders.ensures.same.clocks)
+    omega (arith, few, c.advance_roles-orders.ensures.same.clocks)
 
 pub post-requires-clause-few : goal.post-requires-clause-few
-post-requires-clause-few c = let w = c.requires.at in notices-few w.scenario c.args.self.now w.entries w.machine w.few
+post-requires-clause-few g c = let w = c.requires.at in notices-few w.scenario c.args.self.now w.entries w.machine w.few
 
 pub post-requires-clause-places : goal.post-requires-clause-places
-post-requires-clause-places c =
+post-requires-clause-places g c =
     let w = c.requires.at in
     let few = notices-clocks w.scenario c.args.self.now w.entries w.machine in
     omega (arith, few, w.machine.stamps, w.machine.drafts)
 
 -- what the code made an entry of
-abbrev made_of : goal.After-effects_with → PortEntry
-made_of c = record { input = c.args.input; held = c.held.result; reading = to_z w64 (of_z w64 c.value_of.result) }
+abbrev made_of : (g : Over) → goal.After-effects_with g → PortEntry
+made_of g c = record { input = c.args.input; held = c.held.result; reading = to_z w64 (of_z w64 c.value_of.result) }
 
 -- what it made of it, after any history that the machine stands for
-made-at : (c : goal.After-effects_with) (s : Scenario) (entries : List Entry) (q : HubPort) → PartsRepresent s c.args.self.now (state_of s entries)
+made-at : (g : Over) (c : goal.After-effects_with g) (s : Scenario) (entries : List Entry) (q : HubPort) → PartsRepresent s c.args.self.now (state_of s entries)
     → port_at (state_of s entries).core.ports c.args.input.number ≡ Some q
-    → IsMade s.options (state_of s entries) (made_of c) q c.seen-seen.result c.serve-outcome.new.self c.serve-outcome.new.frames.items c.serve-outcome.result c.advance-orders.new.self c.advance-orders.result
-made-at c s entries q machine there =
+    → IsMade s.options (state_of s entries) (made_of g c) q c.seen-seen.result c.serve-outcome.new.self c.serve-outcome.new.frames.items c.serve-outcome.result c.advance_roles-orders.new.roles c.advance_roles-orders.result
+made-at g c s entries q machine there =
     let h = state_of s entries in
     let m = c.args.self.now in
-    let e = made_of c in
+    let e = made_of g c in
     let placed = placed-at s entries c.args.input.number q there in
     let clock = clock-of s h m c.args.input q c.index-clock.result.now machine placed c.index-clock.ensures in
     let held = c.held.ensures.history h.roles machine.roles ∙ ap (λ (k : ℕ). held_of k h.roles.orders) clock in
@@ -134,43 +139,43 @@ made-at c s entries q machine there =
     let Y : List (List ℕ) → Type 0 = λ b. EventYields s.options e h.core h.measured c.serve-outcome.new.self b c.serve-outcome.new.frames.items c.serve-outcome.result in
     let yields = subst Y c.requires.rooms.frames.empty (c.serve-outcome.ensures.yields s.options h.core h.measured machine.core) in
     let clocks = c.deref.ensures.value ∙ machine.clocks ∙ clocks-decided s entries e q c.seen-seen.result there held reading in
-    let states = c.items.ensures ∙ c.serve-outcome.ensures.states s.options h.core h.measured machine.core in
-    let parent = ap (λ (x : Master). x.parent) yields.clock.core.master in
+    let kept = sym (clocks-decided s entries e q c.seen-seen.result there held reading) ∙ clocks-ports s entries in
+    let told = told-of s entries e c.seen-seen.result c.serve-outcome.result kept yields.states yields.parent in
     record {
       there = there;
       number = placed.number_is;
       held = held;
       reading = reading;
       yields = yields;
-      went = c.advance-orders.ensures.advanced (core_decided s.options e h.core) h.roles parent states clocks machine.roles;
+      went = c.advance_roles-orders.ensures.advanced s entries (core_decided s.options e h.core) told yields.clock.core clocks machine.roles;
     }
 
 -- the effects by the frames that were sent
-effects-by : (c : goal.After-effects_with) → c.effects_with.result ≡ effects_with c.serve-outcome.result c.advance-orders.result (map (sent_by c.args.input.number) c.serve-outcome.new.frames.items)
-effects-by c = c.effects_with.ensures ∙ ap (λ (fs : List Sent). effects_with c.serve-outcome.result c.advance-orders.result fs) c.sends_of.ensures
+effects-by : (g : Over) (c : goal.After-effects_with g) → c.effects_with.result ≡ effects_with c.serve-outcome.result c.advance_roles-orders.result (map (sent_by c.args.input.number) c.serve-outcome.new.frames.items)
+effects-by g c = c.effects_with.ensures ∙ ap (λ (fs : List Sent). effects_with c.serve-outcome.result c.advance_roles-orders.result fs) c.sends_of.ensures
 
 pub returns-clause-served : goal.returns-clause-served
-returns-clause-served c = λ s entries rules machine due.
+returns-clause-served g c = λ s entries rules machine due.
     let h = state_of s entries in
     let m = c.args.self.now in
-    let e = made_of c in
+    let e = made_of g c in
     let seen = c.seen-seen.result in
     let at = due-port s h c.args.input due in
     let q = at.port in
     let placed = placed-at s entries c.args.input.number q at.there in
-    let is = made-at c s entries q machine at.there in
+    let is = made-at g c s entries q machine at.there in
     let before = c.generation-before.ensures ∙ machine.roles.gener in
     let notices = c.post.ensures.posted s.options (core_decided s.options e h.core) (after_roles (core_decided s.options e h.core) h.roles) h.roles h.followers is.yields.clock.core is.went.roles before machine.notices in
-    let new : HubParts = record { port_clocks = m.port_clocks; core = c.serve-outcome.new.self; roles = c.advance-orders.new.self; states = c.serve-outcome.new.states; notices = c.post.new.self.notices; drafts = c.post.new.self.drafts } in
+    let new : HubParts = record { port_clocks = m.port_clocks; core = c.serve-outcome.new.self; roles = c.advance_roles-orders.new.roles; states = c.advance_roles-orders.new.states; notices = c.post.new.self.notices; drafts = c.post.new.self.drafts } in
     let entry : Entry = record { input = c.history_input.result; moment = c.post.new.self.core.moment; seen = seen; effects = c.effects_with.result } in
-    let made = entry-made s entries e q seen c.serve-outcome.new.self c.serve-outcome.new.frames.items c.serve-outcome.result c.advance-orders.new.self c.advance-orders.result entry
-    is c.history_input.ensures (ap (λ (x : HubParts). x.core.moment) c.post.ensures.same) refl (effects-by c) in
-    let next = machine-next s entries e q seen m new c.serve-outcome.new.frames.items c.serve-outcome.result c.advance-orders.result machine is (record {
+    let made = entry-made s entries e q seen c.serve-outcome.new.self c.serve-outcome.new.frames.items c.serve-outcome.result c.advance_roles-orders.new.roles c.advance_roles-orders.result entry
+    is c.history_input.ensures (ap (λ (x : HubParts). x.core.moment) c.post.ensures.same) refl (effects-by g c) in
+    let next = machine-next s entries e q seen m new c.serve-outcome.new.frames.items c.serve-outcome.result c.advance_roles-orders.result machine is (record {
       clocks = refl;
       sound = c.serve-outcome.ensures.sound;
       ports = c.serve-outcome.ensures.length;
-      table = c.advance-orders.ensures.same;
-      listed = c.serve-outcome.ensures.listed;
+      table = c.advance_roles-orders.ensures.same;
+      places = omega (arith, c.advance_roles-orders.ensures.places, c.serve-outcome.ensures.length);
       drafts = c.post.ensures.places;
     }) notices in
     let clock = clock-of s h m c.args.input q c.index-clock.result.now machine placed c.index-clock.ensures in
@@ -182,22 +187,50 @@ returns-clause-served c = λ s entries rules machine due.
     }
 
 pub returns-clause-few : goal.returns-clause-few
-returns-clause-few c =
+returns-clause-few g c =
     let w = c.requires.at in
     let s = w.scenario in
     let h = state_of s w.entries in
     let at = port-at c.args.self.now c.args.input w in
-    let e = made_of c in
-    let is = made-at c s w.entries at.port w.machine at.there in
+    let e = made_of g c in
+    let is = made-at g c s w.entries at.port w.machine at.there in
     let sends = sends-known s.options e (core_at e h.core) at.port c.args.input.number c.serve-outcome.new.frames.items at.there is.number is.yields.frames in
     let count = ports-length s w.entries ∙ sym w.machine.ports in
     let F : Effects → Type 0 = λ f. AreFew c.args.self.now.core.ports.len (length c.args.self.now.roles.stamps) f in
     let L : List Sent → Type 0 = λ xs. length xs ≤ 2 in
     let S : List Sent → Type 0 = λ xs. All IsShort xs in
-    subst F (sym (effects-by c)) (record {
+    subst F (sym (effects-by g c)) (record {
       moves = few-moves c.serve-outcome.result.states h.core.ports _ _ c.args.self.now.core.ports.len is.yields.states count;
-      orders = c.advance-orders.ensures.short;
+      orders = c.advance_roles-orders.ensures.short;
       frames = subst L (sym sends) (few-frames s.options e (core_at e h.core) at.port at.there);
       short = subst S (sym sends) (short-frames s.options e (core_at e h.core) at.port at.there);
       unanswered = refl;
     })
+
+-- the entry is one of the port
+port-entry : (g : Over) (c : goal.After-effects_with g) (s : Scenario) (entries : List Entry) → PartsRepresent s c.args.self.now (state_of s entries) → IsDue s (state_of s entries) (history_input c.args.input)
+    → IsPortEntry s entries (made_of g c) c.seen-seen.result (record { input = c.history_input.result; moment = c.post.new.self.core.moment; seen = c.seen-seen.result; effects = c.effects_with.result })
+port-entry g c s entries machine due =
+    let h = state_of s entries in
+    let e = made_of g c in
+    let at = due-port s h c.args.input due in
+    let is = made-at g c s entries at.port machine at.there in
+    record {
+      is = entry-is h at.port c.seen-seen.result e is.there is.held is.reading;
+      event_is = ap (λ (x : Input). event x c.seen-seen.result) c.history_input.ensures;
+    }
+
+pub returns-clause-bests : goal.returns-clause-bests
+returns-clause-bests g c = λ s entries rules machine due was.
+    let h = state_of s entries in
+    let entry : Entry = record { input = c.history_input.result; moment = c.post.new.self.core.moment; seen = c.seen-seen.result; effects = c.effects_with.result } in
+    let posted = ap (λ (x : HubParts). bests_of x.core.decider.bests) c.post.ensures.same in
+    posted ∙ bests-next s entries (made_of g c) c.seen-seen.result entry _ _ (port-entry g c s entries machine due) was
+    (c.serve-outcome.ensures.bests s.options h.core h.measured machine.core)
+
+pub returns-clause-counted : goal.returns-clause-counted
+returns-clause-counted g c = λ s entries rules machine due was.
+    let h = state_of s entries in
+    let entry : Entry = record { input = c.history_input.result; moment = c.post.new.self.core.moment; seen = c.seen-seen.result; effects = c.effects_with.result } in
+    counted-next s entries (made_of g c) c.seen-seen.result entry _ _ _ (port-entry g c s entries machine due) was
+    (c.serve-outcome.ensures.counted s.options h.core h.measured machine.core)
