@@ -39,15 +39,16 @@ fn take_free_step(hub: &mut Hub, actor: &mut Actor) -> Result<bool, HubError>
     Ok(true)
 }
 
-/// An actor takes its next step: an event where that is due up to `until`, in ns of the scenario, in the
-/// hub's window and before the run ends, or a reading or an exchange. Ok(false) only where its next
-/// step is an event that is not due so. Events only where the step is an event that is one too many.
+/// An actor takes its next step: an event where that is due up to `until`, in ns of the scenario, in
+/// the hub's window and before the run ends, or a reading or an exchange. Ok(false) only where its
+/// next step is an event that is not due so. Events only where the step is an event that is one too many.
 /// A refusal leaves hub and actor as they were.
 pub fn take_step(hub: &mut Hub, actor: &mut Actor, until: u64) -> Result<bool, HubError>
     requires level { IsLevel hub.old actor.old }
     requires few { length hub.old.entries ≤ ENTRIES_MAX }
     ensures step { result ≡ Ok true → StepYields hub.old actor.old hub.new actor.new }
-    ensures waits { result ≡ Ok false → is_ready until hub.old actor.old ≡ false }
+    ensures waits { result ≡ Ok false
+        → (is_inside actor.old.place ≡ true) × (is_ready until hub.old actor.old ≡ false) }
     ensures idle { result ≡ Ok false → (hub.new ≡ hub.old) × (actor.new ≡ actor.old) }
     ensures error { IfErr result (IsStepError hub.old actor.old) }
     ensures same { OnErr result ((hub.new ≡ hub.old) × (actor.new ≡ actor.old)) }

@@ -2,6 +2,7 @@ pub mod RecordQueue
 pub mod PortSamples
 pub mod ExchangeBounds
 pub mod ActorView
+pub mod NewestEntry
 pub mod PortActors
 pub mod FollowerJob
 pub mod FollowerActors

@@ -41,6 +41,6 @@ pub record IsPortActor (i : Inside) : Type 0 where
   pub askable : IsPlaceAskable i.place
   pub servo : SteererRepresents i.steerer (servo_of i.scenario.value.options)
       (port_samples i.number (history_of i))
-  pub records : QueueRepresents i.records.items
+  pub records : QueueRepresents i.records
       (records_left i.scenario.value i.number (history_of i))
   pub duration_is : i.duration ≡ i.scenario.value.options.duration

@@ -28,6 +28,10 @@ left_after is_taken left = if is_taken then drop 1 left else left
 abbrev pub last_of : List Record → Option Record
 last_of queue = slice_get queue (length queue - 1)
 
+-- the tick of the record at the end of a queue, if there is one
+abbrev pub upcoming_of : List Record → Option ℕ
+upcoming_of queue = option_map (λ (r : Record). r.tick) (last_of queue)
+
 -- a record of a tick comes before the timer that is set, if one is: the record is first at one tick
 abbrev pub is_first : ℕ → Option (ℕ × Timer) → Bool
 is_first tick None = true

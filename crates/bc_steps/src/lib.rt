@@ -9,6 +9,8 @@
 mod actor;
 mod exchange;
 mod follower;
+mod hub_event;
+mod newest_entry;
 mod port;
 mod queries;
 mod servo_conf;

@@ -12,6 +12,7 @@ ghost use Rattle.hub_core.specs.HubView.{IsInWindow, entry_by, reading_at, with_
 ghost use Rattle.bc_steps.specs.ActorView.{due_tick, is_ready, place_at_opening, world_with, AddsOwn, IsIn, IsJobDue, IsLevel, IsPlaceOf, IsSameActor};
 ghost use Rattle.bc_steps.specs.QueryActors.{asked_input};
 
+use crate::hub_event::take_event;
 use crate::ticks::last_tick;
 use bc_history::{Asked, Entries, Input, Scenario};
 use hub_core::{Hub, HubError};
@@ -148,7 +149,7 @@ impl QueryActor {
         ensures memory { IfErr result (λ error. error ≡ HubError.NoMemory) }
         ensures same { OnErr result ((hub.new ≡ hub.old) × (self.new ≡ self.old)) }
     {
-        hub.event(input)?;
+        take_event(hub, input)?;
         hub.rules();
         self.history = Snapshot::of(hub.entries());
         Ok(())

@@ -30,15 +30,15 @@ port-send : IsSend port.the_row
 port-send = search all depth 100 fits 20000
 
 clock-send : IsSend clock.the_row
-clock-send = declared_send clock.the_type (search all depth 60 fits 20000, (search all depth 60 fits 20000, (search (port-send, crosses, recorded_send) depth 60, (search all depth 60 fits 20000, tt))))
+clock-send = declared_send clock.the_type (search all depth 60 fits 20000, (search all depth 60 fits 20000, (search (port-send, crosses, recorded_send) depth 60, (search all depth 60 fits 20000, (search all depth 60 fits 20000, tt)))))
 
 parts-send : IsSend parts.the_row
 parts-send =
-    declared_send parts.the_type (search all depth 60 fits 20000, (search (clock-send, tt) depth 60, (search all depth 60 fits 20000, (search all depth 60 fits 20000, (search all depth 60 fits 20000, (search all depth 60 fits 20000, tt))))))
+    declared_send parts.the_type (search all depth 60 fits 20000, (search clock-send depth 60, (search all depth 60 fits 20000, (search all depth 60 fits 20000, (search all depth 60 fits 20000, (search all depth 60 fits 20000, tt))))))
 
 pub hub-send : IsSend hub.the_row
 hub-send =
-    let fields = declared_send inside.the_type (search all depth 60 fits 20000, (search all depth 60 fits 20000, (search (parts-send, tt) depth 60, (search (entry-send, all) depth 60, (search all depth 60 fits 20000, (search all depth 60 fits 20000, (search all depth 60 fits 20000, tt))))))) in
+    let fields = declared_send inside.the_type (search all depth 60 fits 20000, (search all depth 60 fits 20000, (search parts-send depth 60, (search (entry-send, all) depth 60, (search all depth 60 fits 20000, (search all depth 60 fits 20000, (search all depth 60 fits 20000, tt))))))) in
     view_send _ _ _ _ _ fields
 
 pub actor-send : IsSend actor.the_row
@@ -47,5 +47,5 @@ actor-send = search all depth 100 fits 20000
 -- the hub and all who act, as what names the scenario may
 pub acting-send : (N : RattleType) (naming : Ghosts N.Denot) → IsSend N → IsSend (acting.the_row N naming)
 acting-send N naming named =
-    let fields = declared_send (acting_inside.the_type N naming) (search (hub-send, tt) depth 60, (search (actor-send, crosses, recorded_send) depth 60, (search all depth 60 fits 20000, tt))) in
+    let fields = declared_send (acting_inside.the_type N naming) (search hub-send depth 60, (search (actor-send, crosses, recorded_send) depth 60, (search all depth 60 fits 20000, tt))) in
     view_send _ _ _ _ _ fields

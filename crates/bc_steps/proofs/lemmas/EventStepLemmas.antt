@@ -42,8 +42,8 @@ use Rattle.bc_steps.proofs.lemmas.OwnPortLemmas.{AreSameOwn, OwnPort, by_end, du
 -- the event of an actor after these entries: it is its port's next, and comes before the run ends
 pub record IsDueEvent (s : Scenario) (i : Inside) (entries : List Entry) (input : Input) (tick : ℕ) : Type 0 where
   pub own : OwnPort s i.number entries
-  pub next : next_input s own.port ≡ record_or_timer i.number (last_of i.records.items) (due_of own.port.port.timers)
-  pub takes : input_at i.number i.place (last_of i.records.items) (due_of own.port.port.timers) ≡ Some input
+  pub next : next_input s own.port ≡ record_or_timer i.number (last_of i.records) (due_of own.port.port.timers)
+  pub takes : input_at i.number i.place (last_of i.records) (due_of own.port.port.timers) ≡ Some input
   pub event : IsNextEvent s (state_of s entries) i.number tick input
   pub in_time : tick ≤ s.options.duration
 
@@ -59,16 +59,16 @@ by_end-some duration (Some t) tick is = by (leb t duration) refl is
 -- in the actor's own scenario
 event-own : (i : Inside) (entries : List Entry) (input : Input) (tick : ℕ) → IsPortActor i
     → AreSameOwn i entries → Continues i.scenario.value entries
-    → input_at i.number i.place (last_of i.records.items) (timer_of i.scenario.value entries i.number) ≡ Some input
-    → by_end i.duration (tick_at i.number i.place (last_of i.records.items) (timer_of i.scenario.value entries i.number)) ≡ Some tick
+    → input_at i.number i.place (last_of i.records) (timer_of i.scenario.value entries i.number) ≡ Some input
+    → by_end i.duration (tick_at i.number i.place (last_of i.records) (timer_of i.scenario.value entries i.number)) ≡ Some tick
     → IsDueEvent i.scenario.value i entries input tick
 event-own i entries input tick is same continues takes at =
     let s = i.scenario.value in
     let own = own-port s i.number entries is.first is.there in
     let timer = timer-own s i.number entries own in
-    let ends = by_end-some i.duration (tick_at i.number i.place (last_of i.records.items) (timer_of s entries i.number)) tick at in
-    let taken = sym (ap (λ (t : Option (ℕ × Timer)). input_at i.number i.place (last_of i.records.items) t) timer) ∙ takes in
-    let ticks = sym (ap (λ (t : Option (ℕ × Timer)). tick_at i.number i.place (last_of i.records.items) t) timer) ∙ ends.0 in
+    let ends = by_end-some i.duration (tick_at i.number i.place (last_of i.records) (timer_of s entries i.number)) tick at in
+    let taken = sym (ap (λ (t : Option (ℕ × Timer)). input_at i.number i.place (last_of i.records) t) timer) ∙ takes in
+    let ticks = sym (ap (λ (t : Option (ℕ × Timer)). tick_at i.number i.place (last_of i.records) t) timer) ∙ ends.0 in
     record {
       own = own;
       next = next-own i entries is same own;
@@ -79,7 +79,7 @@ event-own i entries input tick is same continues takes at =
 
 -- what the code found, in the hub's scenario
 pub event-due : (i : Inside) (a : ActorState) (hub : HubState) (queue : List Record) (timer : Option (ℕ × Timer)) (input : Input) (tick : ℕ)
-    → IsPortActor i → port_actor_view i ≡ a → IsLevel hub a → Continues hub.scenario hub.entries → queue ≡ i.records.items
+    → IsPortActor i → port_actor_view i ≡ a → IsLevel hub a → Continues hub.scenario hub.entries → queue ≡ i.records
     → timer ≡ timer_of hub.scenario hub.entries i.number → input_at i.number i.place (last_of queue) timer ≡ Some input
     → due_tick hub a ≡ Some tick → IsDueEvent hub.scenario i hub.entries input tick
 event-due i a hub queue timer input tick is view level continues queued told takes at =
@@ -90,7 +90,7 @@ event-due i a hub queue timer input tick is view level continues queued told tak
     let timers = told ∙ ap (λ (x : Scenario). timer_of x entries i.number) (sym level_of.scenario) in
     let taken =
     sym (ap (λ (q : List Record). input_at i.number i.place (last_of q) timer) queued
-    ∙ ap (λ (t : Option (ℕ × Timer)). input_at i.number i.place (last_of i.records.items) t) timers) ∙ takes in
+    ∙ ap (λ (t : Option (ℕ × Timer)). input_at i.number i.place (last_of i.records) t) timers) ∙ takes in
     let ticks =
     sym (due-own i entries is same)
     ∙ ap (λ (x : Scenario). due_tick (record { scenario = x; entries = hub.entries; logs = hub.logs; windows = hub.windows }) (port_actor_view i)) level_of.scenario
@@ -170,7 +170,7 @@ event-step i w hub new input tick is in_world made =
     ∙ ap (λ (es : List Entry). option_and_then (λ (h : HubPort). port_step s w i.number h i.place) (port_at (state_of s es).core.ports i.number))
     in_world.entries
     ∙ ap (λ (o : Option HubPort). option_and_then (λ (h : HubPort). port_step s w i.number h i.place) o) is.own.there
-    ∙ step-at s w i.number port i.place (last_of i.records.items) (due_of port.port.timers) input is.next is.takes in_time
+    ∙ step-at s w i.number port i.place (last_of i.records) (due_of port.port.timers) input is.next is.takes in_time
     ∙ ap (λ (x : World). Some (Event x))
     (event-alike w hub new i.number input (port_reading s w port input) in_world.entries in_world.logs
     (reading-at w hub i.number port input in_world.logs number is.own.conf) made)
@@ -211,13 +211,13 @@ ready-by until tick o is le = ap (λ (x : Option ℕ). holds (λ t. leb t until)
 
 -- an actor inside that is due has an input
 pub some-input : (i : Inside) (a : ActorState) (hub : HubState) (queue : List Record) (timer : Option (ℕ × Timer)) (tick : ℕ)
-    → IsPortActor i → port_actor_view i ≡ a → IsLevel hub a → is_inside a.place ≡ true → queue ≡ i.records.items
+    → IsPortActor i → port_actor_view i ≡ a → IsLevel hub a → is_inside a.place ≡ true → queue ≡ i.records
     → timer ≡ timer_of hub.scenario hub.entries i.number → due_tick hub a ≡ Some tick
     → input_at i.number i.place (last_of queue) timer ≡ None → ⊥
 some-input i a hub queue timer tick is view level inside queued told at none =
     let level_of : IsLevel hub (port_actor_view i) = subst (IsLevel hub) (sym view) level in
     let timers = told ∙ ap (λ (x : Scenario). timer_of x hub.entries i.number) (sym level_of.scenario) in
-    let found = λ (t : Option (ℕ × Timer)). tick_at i.number i.place (last_of i.records.items) t in
+    let found = λ (t : Option (ℕ × Timer)). tick_at i.number i.place (last_of i.records) t in
     let ticks =
     sym (due-own i hub.entries is level_of.entries)
     ∙ ap (λ (x : Scenario). due_tick (record { scenario = x; entries = hub.entries; logs = hub.logs; windows = hub.windows }) (port_actor_view i)) level_of.scenario
@@ -225,6 +225,6 @@ some-input i a hub queue timer tick is view level inside queued told at none =
     let ends = by_end-some i.duration (found (timer_of i.scenario.value hub.entries i.number)) tick ticks in
     let no =
     sym (ap (λ (q : List Record). input_at i.number i.place (last_of q) timer) queued
-    ∙ ap (λ (t : Option (ℕ × Timer)). input_at i.number i.place (last_of i.records.items) t) timers) ∙ none in
-    has-input i.number i.place (last_of i.records.items) (timer_of i.scenario.value hub.entries i.number) tick
+    ∙ ap (λ (t : Option (ℕ × Timer)). input_at i.number i.place (last_of i.records) t) timers) ∙ none in
+    has-input i.number i.place (last_of i.records) (timer_of i.scenario.value hub.entries i.number) tick
     (subst (λ (x : ActorState). is_inside x.place ≡ true) (sym view) inside) ends.0 no

@@ -90,16 +90,16 @@ taken-same i entries same =
 
 -- the next record of the port is at the end of the queue
 next-record : (i : Inside) (entries : List Entry) → IsPortActor i → AreSameOwn i entries → (own : OwnPort i.scenario.value i.number entries)
-    → last_of i.records.items ≡ slice_get (records_of i.scenario.value i.number) own.port.taken
+    → last_of i.records ≡ slice_get (records_of i.scenario.value i.number) own.port.taken
 next-record i entries is same own =
     let s = i.scenario.value in
-    next-queued s i.number (history_of i) i.records.items is.records
+    next-queued s i.number (history_of i) i.records is.records
     ∙ ap (λ n. slice_get (records_of s i.number) n)
     (taken-same i entries same ∙ sym (taken-state_of s entries i.number own.port own.there))
 
 -- the record or timer that the port takes next
 pub next-own : (i : Inside) (entries : List Entry) → IsPortActor i → AreSameOwn i entries → (own : OwnPort i.scenario.value i.number entries)
-    → next_input i.scenario.value own.port ≡ record_or_timer i.number (last_of i.records.items) (due_of own.port.port.timers)
+    → next_input i.scenario.value own.port ≡ record_or_timer i.number (last_of i.records) (due_of own.port.port.timers)
 next-own i entries is same own =
     let s = i.scenario.value in
     ap (λ n. record_or_timer n (slice_get (records_of s n) own.port.taken) (due_of own.port.port.timers)) own.number
@@ -129,27 +129,27 @@ by_end duration tick = option_and_then (λ t. cond (leb t duration) (Some t) Non
 -- the tick of the actor's next step
 pub due-own : (i : Inside) (entries : List Entry) → IsPortActor i → AreSameOwn i entries
     → due_by_end i.scenario.value (state_of i.scenario.value entries) (Port i.number) (Of_port i.place)
-    ≡ by_end i.duration (tick_at i.number i.place (last_of i.records.items) (timer_of i.scenario.value entries i.number))
+    ≡ by_end i.duration (tick_at i.number i.place (last_of i.records) (timer_of i.scenario.value entries i.number))
 due-own i entries is same =
     let s = i.scenario.value in
     let own = own-port s i.number entries is.first is.there in
     ap (λ (o : Option HubPort). by_end s.options.duration (option_and_then (λ (h : HubPort). port_due s h i.place) o)) own.there
-    ∙ ap (by_end s.options.duration) (due-at s own.port i.number i.place (last_of i.records.items) (next-own i entries is same own))
-    ∙ ap (λ (t : Option (ℕ × Timer)). by_end s.options.duration (tick_at i.number i.place (last_of i.records.items) t))
+    ∙ ap (by_end s.options.duration) (due-at s own.port i.number i.place (last_of i.records) (next-own i entries is same own))
+    ∙ ap (λ (t : Option (ℕ × Timer)). by_end s.options.duration (tick_at i.number i.place (last_of i.records) t))
     (sym (timer-own s i.number entries own))
-    ∙ ap (λ d. by_end d (tick_at i.number i.place (last_of i.records.items) (timer_of s entries i.number))) (sym is.duration_is)
+    ∙ ap (λ d. by_end d (tick_at i.number i.place (last_of i.records) (timer_of s entries i.number))) (sym is.duration_is)
 
 -- what the code finds is what the definitions say: from the queue and the timer that the hub told
 pub due-told : (i : Inside) (a : ActorState) (hub : HubState) (queue : List Record) (timer : Option (ℕ × Timer)) (t : Option ℕ)
-    → IsPortActor i → port_actor_view i ≡ a → IsLevel hub a → queue ≡ i.records.items → timer ≡ timer_of hub.scenario hub.entries i.number
+    → IsPortActor i → port_actor_view i ≡ a → IsLevel hub a → queue ≡ i.records → timer ≡ timer_of hub.scenario hub.entries i.number
     → ((p : ℕ) → t ≡ tick_at p i.place (last_of queue) timer) → by_end i.duration t ≡ due_tick hub a
 due-told i a hub queue timer t is view level queued told found =
     let level_of : IsLevel hub (port_actor_view i) = subst (IsLevel hub) (sym view) level in
     let same = level_of.entries in
-    let by = λ (s : Scenario). by_end i.duration (tick_at i.number i.place (last_of i.records.items) (timer_of s hub.entries i.number)) in
+    let by = λ (s : Scenario). by_end i.duration (tick_at i.number i.place (last_of i.records) (timer_of s hub.entries i.number)) in
     ap (by_end i.duration) (found i.number)
     ∙ ap (λ (q : List Record). by_end i.duration (tick_at i.number i.place (last_of q) timer)) queued
-    ∙ ap (λ (x : Option (ℕ × Timer)). by_end i.duration (tick_at i.number i.place (last_of i.records.items) x)) told
+    ∙ ap (λ (x : Option (ℕ × Timer)). by_end i.duration (tick_at i.number i.place (last_of i.records) x)) told
     ∙ ap by (sym level_of.scenario)
     ∙ sym (due-own i hub.entries is same)
     ∙ ap (λ (s : Scenario). due_by_end s (state_of s hub.entries) (Port i.number) (Of_port i.place)) level_of.scenario

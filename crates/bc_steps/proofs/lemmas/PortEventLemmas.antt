@@ -154,13 +154,13 @@ event-at s h p port (Reports t gener action outcome) next timer input tick there
 -- of an actor
 pub next-event : (i : Inside) (entries : List Entry) → IsPortActor i → AreSameOwn i entries → Continues i.scenario.value entries
     → (own : OwnPort i.scenario.value i.number entries) → (input : Input) (tick : ℕ)
-    → input_at i.number i.place (last_of i.records.items) (due_of own.port.port.timers) ≡ Some input
-    → tick_at i.number i.place (last_of i.records.items) (due_of own.port.port.timers) ≡ Some tick
+    → input_at i.number i.place (last_of i.records) (due_of own.port.port.timers) ≡ Some input
+    → tick_at i.number i.place (last_of i.records) (due_of own.port.port.timers) ≡ Some tick
     → IsNextEvent i.scenario.value (state_of i.scenario.value entries) i.number tick input
 next-event i entries is same continues own input tick takes at =
     let s = i.scenario.value in
     let measured = measured-state_of s entries continues i.number own.port own.there in
-    event-at s (state_of s entries) i.number own.port i.place (last_of i.records.items) (due_of own.port.port.timers) input tick own.there
+    event-at s (state_of s entries) i.number own.port i.place (last_of i.records) (due_of own.port.port.timers) input tick own.there
     (subst (λ (m : Option TickMeasure). IsAtJob m i.place) (sym measured) (job-own i entries is same))
     (next-own i entries is same own) takes at
 

@@ -56,7 +56,7 @@ port-there s p all =
 pub actor-opened : (i : Inside) (s : Scenario) → i.scenario.value ≡ s → IsScenario s → Contains (actors_of s) (Port i.number)
     → i.history.value ≡ [] → i.place ≡ Waits → i.duration ≡ s.options.duration
     → SteererRepresents i.steerer (servo_of s.options) []
-    → QueueRepresents i.records.items (filter (λ (r : Record). r.port == i.number) s.records) → IsPortActor i
+    → QueueRepresents i.records (filter (λ (r : Record). r.port == i.number) s.records) → IsPortActor i
 actor-opened i s made rules all none waits duration servo records =
     let of : (P : Scenario → Type 0) → P s → P i.scenario.value = λ P x. subst P (sym made) x in
     let empty : [] ≡ history_of i = ap (λ (es : List Entry). reverse es) (sym none) in
@@ -73,7 +73,7 @@ actor-opened i s made rules all none waits duration servo records =
           subst (λ (es : List Entry). SteererRepresents i.steerer (servo_of i.scenario.value.options) (port_samples i.number es)) empty
           (of (λ x. SteererRepresents i.steerer (servo_of x.options) []) servo);
       records =
-          subst (λ (es : List Entry). QueueRepresents i.records.items (records_left i.scenario.value i.number es)) empty
-          (of (λ x. QueueRepresents i.records.items (filter (λ (r : Record). r.port == i.number) x.records)) records);
+          subst (λ (es : List Entry). QueueRepresents i.records (records_left i.scenario.value i.number es)) empty
+          (of (λ x. QueueRepresents i.records (filter (λ (r : Record). r.port == i.number) x.records)) records);
       duration_is = of (λ x. i.duration ≡ x.options.duration) duration;
     }

@@ -1,7 +1,6 @@
 -- The queue of a port's records: the next record is at its end.
-use Rattle.std.proofs.Common.{◌≡◌, ℕ, zero, suc, ◌-◌, Bool, cond, sym, ap, ◌∙◌, arith, List, [], ◌∷◌, ◌++◌, length, reverse, drop, take, filter, Some, slice_get, eq-eqb, length-append}
+use Rattle.std.proofs.Common.{◌≡◌, ℕ, zero, suc, Bool, cond, sym, ap, ◌∙◌, List, [], ◌∷◌, ◌++◌, reverse, drop, filter, Some, slice_get, eq-eqb}
 use Rattle.std.specs.Prelude.{◌==◌}
-use Rattle.std.proofs.Math.Seq.{take-append_seam, take-nil}
 use Rattle.std.proofs.lemmas.List.{reverse-append}
 use Rattle.bc_history.specs.declared.scenario.Record.{Record}
 use Rattle.bc_steps.specs.RecordQueue.{QueueRepresents}
@@ -32,15 +31,3 @@ queued-more p records i r copy queue there same copied queued =
     ∙ ap (λ (x : Record). reverse (filter own (drop (suc i) records)) ++ x ∷ []) copied
     ∙ sym (reverse-cons r (filter own (drop (suc i) records)))
     ∙ ap (λ (xs : List Record). reverse xs) (sym from)
-
--- a queue without its last record, once the next one was taken
-pub queue-taken : (n : ℕ) (queue new left : List Record) → n ≡ length queue → new ≡ take (n - 1) queue → QueueRepresents queue left
-    → QueueRepresents new (drop 1 left)
-queue-taken n queue new [] long is queued =
-    is ∙ ap (λ (q : List Record). take (n - 1) q) queued ∙ take-nil (n - 1)
-queue-taken n queue new (x ∷ rest) long is queued =
-    let turned = queued ∙ reverse-cons x rest in
-    let count = long ∙ ap (λ (q : List Record). length q) turned ∙ length-append (reverse rest) (x ∷ []) in
-    let short : n - 1 ≡ length (reverse rest) = omega (arith, count) in
-    is ∙ ap (λ (q : List Record). take (n - 1) q) turned ∙ ap (λ k. take k (reverse rest ++ x ∷ [])) short
-    ∙ take-append_seam (reverse rest) (x ∷ [])

@@ -9,7 +9,6 @@ use Rattle.ptp_profile.specs.declared.timing.Action.{Action}
 use Rattle.ptp_profile.specs.declared.timing.Action.TheVariants.{Unlocked as Unlocked_action, Jump, Locked}
 use Rattle.ptp_profile.specs.Timing.Servo.{Sample, newest_action}
 use Rattle.pi_servo.specs.SteererView.{SteererRepresents}
-use Rattle.bc_history.specs.declared.entry.Effects.{Effects}
 use Rattle.bc_history.specs.declared.entry.Entry.{Entry}
 use Rattle.bc_history.specs.declared.entry.Input.{Input}
 use Rattle.bc_history.specs.declared.entry.Input.TheVariants.{Frame, Timed, Down, Up, Report, Turn, Sampled, Query}
@@ -34,6 +33,7 @@ use Rattle.bc_steps.specs.ActorView.{IsLevel}
 use Rattle.bc_steps.specs.ExchangeBounds.{IsAskable}
 use Rattle.bc_steps.specs.FollowerActors.{IsFollowerActor, follower_actor_view, follower_history}
 use Rattle.bc_steps.specs.FollowerJob.{IsInputAt, IsJobAskable, IsKept, Shows, samples_taken, turns_served}
+use Rattle.bc_steps.specs.NewestEntry.{newest_told}
 use Rattle.bc_steps.specs.declared.follower.actor.FollowerActor.TheInside.{Inside}
 use Rattle.bc_steps.proofs.lemmas.OwnFollowerLemmas.{AreSameEntries, samples-alike, turns-same}
 use Rattle.bc_steps.proofs.lemmas.ServedPortLemmas.{entry-input, entry_of}
@@ -153,7 +153,7 @@ follower-served i j entries e is same by =
 -- ---- what the code made
 
 -- an event of the hub and what the follower made of it
-pub record HasMadeFollower (i j : Inside) (hub new : HubState) (input : Input) (effects : Effects) (tick : ℕ) : Type 0 where
+pub record HasMadeFollower (i j : Inside) (hub new : HubState) (input : Input) (told : Option Told) (tick : ℕ) : Type 0 where
   pub level : IsLevel hub (follower_actor_view i)
   pub alike : j ≡ record i { history = j.history; turns = j.turns; place = j.place }
   pub entry : new ≡ with_entry hub (entry_of hub new input)
@@ -161,15 +161,15 @@ pub record HasMadeFollower (i j : Inside) (hub new : HubState) (input : Input) (
   pub kept : j.history.value ≡ reverse new.entries
   pub own : is_same_actor (A_follower i.clock) (actor_of input) ≡ true
   pub next : IsInputAt (Of_follower i.place) input
-  pub effects_are : effects ≡ (entry_of hub new input).effects
+  pub told_is : told ≡ newest_told new.entries
   pub tick_is : tick ≡ tick_of input
-  pub place : j.place ≡ place_by_lead tick (option_and_then (λ (told : Told). told.lead) effects.told)
+  pub place : j.place ≡ place_by_lead tick (option_and_then (λ (t : Told). t.lead) told)
   pub turns : j.turns ≡ turns_served i.turns i.place
 
 -- so it served
-pub made-follower : (i j : Inside) (hub new : HubState) (input : Input) (effects : Effects) (tick : ℕ)
-    → HasMadeFollower i j hub new input effects tick → HasServedFollower i j hub.entries (entry_of hub new input)
-made-follower i j hub new input effects tick by =
+pub made-follower : (i j : Inside) (hub new : HubState) (input : Input) (told : Option Told) (tick : ℕ)
+    → HasMadeFollower i j hub new input told tick → HasServedFollower i j hub.entries (entry_of hub new input)
+made-follower i j hub new input told tick by =
     let e = entry_of hub new input in
     let input_is : e.input ≡ input = entry-input hub.scenario hub.entries input (newest_seen new.entries) in
     let entries : new.entries ≡ e ∷ hub.entries = ap (λ (h : HubState). h.entries) by.entry in
@@ -183,7 +183,7 @@ made-follower i j hub new input effects tick by =
       own = ap (λ (x : Input). is_same_actor (A_follower i.clock) (actor_of x)) input_is ∙ by.own;
       next = subst (IsInputAt (Of_follower i.place)) (sym input_is) by.next;
       place =
-          by.place ∙ (ap (λ (f : Effects). place_by_lead tick (option_and_then (λ (told : Told). told.lead) f.told)) by.effects_are
+          by.place ∙ (ap (λ (x : Option Told). place_by_lead tick (option_and_then (λ (t : Told). t.lead) x)) (by.told_is ∙ ap newest_told entries)
           ∙ ap (λ n. place_by_lead n (told_lead e)) (by.tick_is ∙ ap tick_of (sym input_is)));
       turns = by.turns;
     }

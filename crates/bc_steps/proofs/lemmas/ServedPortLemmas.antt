@@ -8,7 +8,6 @@ use Rattle.ptp_profile.specs.declared.timing.Measure.{Measure}
 use Rattle.ptp_profile.specs.Timing.Servo.{Sample}
 use Rattle.pi_servo.specs.SteererView.{SteererRepresents}
 use Rattle.bc_history.specs.declared.entry.Entry.{Entry}
-use Rattle.bc_history.specs.declared.entry.Effects.{Effects}
 use Rattle.bc_history.specs.declared.entry.Input.{Input}
 use Rattle.bc_history.specs.declared.entry.Seen.{Seen}
 use Rattle.bc_history.specs.declared.entry.Who.TheVariants.{Port}
@@ -31,6 +30,7 @@ use Rattle.bc_history.proofs.lemmas.OptionRuleLemmas.{row_at}
 use Rattle.bc_history.proofs.lemmas.PortEntriesLemmas.{port_samples-own, taken_by-more}
 use Rattle.bc_steps.specs.PortActors.{IsPortActor, history_of}
 use Rattle.bc_steps.specs.ExchangeBounds.{IsPlaceAskable, IsWithinClock}
+use Rattle.bc_steps.specs.NewestEntry.{newest_measure}
 use Rattle.bc_steps.specs.PortSamples.{with_sample}
 use Rattle.bc_steps.specs.RecordQueue.{QueueRepresents, left_after, records_left}
 use Rattle.bc_steps.specs.declared.port.actor.PortActor.TheInside.{Inside}
@@ -100,8 +100,8 @@ pub record HasServed (i j : Inside) (entries : List Entry) (e : Entry) : Type 0 
       → SteererRepresents j.steerer (servo_of o) (with_sample e.seen e.effects.measure samples)
   pub askable : (o : Options) (samples : List Sample) → SteererRepresents i.steerer (servo_of o) samples
       → IsWithinClock (servo_of o) → IsPlaceAskable j.place
-  pub records : (left : List Record) → QueueRepresents i.records.items left
-      → QueueRepresents j.records.items (left_after (is_record_of i.number e.input) left)
+  pub records : (left : List Record) → QueueRepresents i.records left
+      → QueueRepresents j.records (left_after (is_record_of i.number e.input) left)
 
 -- the servo before the entry took the samples of all entries before it
 servo-before : (i : Inside) (entries : List Entry) → IsPortActor i → AreSameOwn i entries
@@ -128,7 +128,7 @@ actor-served i j entries e is same by =
     let of : (P : Scenario → Type 0) → P s → P j.scenario.value = λ P x. subst P (sym by.scenario) x in
     let history : e ∷ entries ≡ history_of j = sym by.history in
     let servo = servo-before i entries is same in
-    let left = subst (QueueRepresents i.records.items)
+    let left = subst (QueueRepresents i.records)
     (ap (λ n. drop n (records_of s i.number)) (taken-same i entries same)) is.records in
     record {
       rules = of IsScenario is.rules;
@@ -148,10 +148,10 @@ actor-served i j entries e is same by =
           (subst (SteererRepresents j.steerer (servo_of s.options)) (sym (samples-own i.number e entries by.own))
           (by.steers s.options (port_samples i.number entries) servo))));
       records =
-          subst (λ (es : List Entry). QueueRepresents j.records.items (records_left j.scenario.value j.number es)) history
-          (of (λ x. QueueRepresents j.records.items (records_left x j.number (e ∷ entries)))
-          (subst (λ n. QueueRepresents j.records.items (records_left s n (e ∷ entries))) (sym by.number)
-          (subst (QueueRepresents j.records.items) (left-more s i.number e entries)
+          subst (λ (es : List Entry). QueueRepresents j.records (records_left j.scenario.value j.number es)) history
+          (of (λ x. QueueRepresents j.records (records_left x j.number (e ∷ entries)))
+          (subst (λ n. QueueRepresents j.records (records_left s n (e ∷ entries))) (sym by.number)
+          (subst (QueueRepresents j.records) (left-more s i.number e entries)
           (by.records (records_left s i.number entries) left))));
       duration_is = of (λ x. j.duration ≡ x.options.duration) (by.duration ∙ is.duration_is);
     }
@@ -172,7 +172,7 @@ abbrev pub entry_of : HubState → HubState → Input → Entry
 entry_of hub new input = entry_by hub input (newest_seen new.entries)
 
 -- an event of the hub and what the actor made of it
-pub record HasMade (i j : Inside) (hub new : HubState) (input : Input) (seen : Option Seen) (effects : Effects) (tick : ℕ) (is_record : Bool) : Type 0 where
+pub record HasMade (i j : Inside) (hub new : HubState) (input : Input) (seen : Option Seen) (measure : Option (Measure × Held)) (tick : ℕ) (is_record : Bool) : Type 0 where
   pub level : i.scenario.value ≡ hub.scenario
   pub scenario : j.scenario.value ≡ i.scenario.value
   pub number : j.number ≡ i.number
@@ -181,30 +181,30 @@ pub record HasMade (i j : Inside) (hub new : HubState) (input : Input) (seen : O
   pub history : IsHistory new.scenario new.entries
   pub kept : j.history.value ≡ reverse new.entries
   pub own : is_same_actor (Port i.number) (actor_of input) ≡ true
-  pub effects_are : effects ≡ (entry_of hub new input).effects
+  pub measure_is : measure ≡ newest_measure new.entries
   pub seen_is : seen ≡ newest_seen new.entries
   pub tick_is : tick ≡ tick_of input
   pub record_is : is_record ≡ is_record_of i.number input
   pub place : (o : Options) (samples : List Sample) → SteererRepresents i.steerer (servo_of o) samples
-      → j.place ≡ place_by_measure o (with_sample seen effects.measure samples) tick effects.measure
+      → j.place ≡ place_by_measure o (with_sample seen measure samples) tick measure
   pub steers : (o : Options) (samples : List Sample) → SteererRepresents i.steerer (servo_of o) samples
-      → SteererRepresents j.steerer (servo_of o) (with_sample seen effects.measure samples)
+      → SteererRepresents j.steerer (servo_of o) (with_sample seen measure samples)
   pub askable : (o : Options) (samples : List Sample) → SteererRepresents i.steerer (servo_of o) samples
       → IsWithinClock (servo_of o) → IsPlaceAskable j.place
-  pub records : (left : List Record) → QueueRepresents i.records.items left
-      → QueueRepresents j.records.items (left_after is_record left)
+  pub records : (left : List Record) → QueueRepresents i.records left
+      → QueueRepresents j.records (left_after is_record left)
 
 -- so it served
-pub served : (i j : Inside) (hub new : HubState) (input : Input) (seen : Option Seen) (effects : Effects) (tick : ℕ) (is_record : Bool)
-    → HasMade i j hub new input seen effects tick is_record → HasServed i j hub.entries (entry_of hub new input)
-served i j hub new input seen effects tick is_record by =
+pub served : (i j : Inside) (hub new : HubState) (input : Input) (seen : Option Seen) (measure : Option (Measure × Held)) (tick : ℕ) (is_record : Bool)
+    → HasMade i j hub new input seen measure tick is_record → HasServed i j hub.entries (entry_of hub new input)
+served i j hub new input seen measure tick is_record by =
     let e = entry_of hub new input in
     let input_is : e.input ≡ input = entry-input hub.scenario hub.entries input (newest_seen new.entries) in
     let seen_is : seen ≡ e.seen = by.seen_is ∙ sym (entry-seen hub.scenario hub.entries input (newest_seen new.entries)) in
     let entries : new.entries ≡ e ∷ hub.entries = ap (λ (h : HubState). h.entries) by.entry in
     let scenario : new.scenario ≡ i.scenario.value = ap (λ (h : HubState). h.scenario) by.entry ∙ sym by.level in
     let tick_is : tick ≡ tick_of e.input = by.tick_is ∙ ap tick_of (sym input_is) in
-    let measure : effects.measure ≡ e.effects.measure = ap (λ (f : Effects). f.measure) by.effects_are in
+    let measure_is : measure ≡ e.effects.measure = by.measure_is ∙ ap newest_measure entries in
     record {
       scenario = by.scenario;
       number = by.number;
@@ -216,15 +216,15 @@ served i j hub new input seen effects tick is_record by =
       own = ap (λ (x : Input). is_same_actor (Port i.number) (actor_of x)) input_is ∙ by.own;
       place = λ o samples rep.
           by.place o samples rep
-          ∙ ap (λ (x : Option Seen). place_by_measure o (with_sample x effects.measure samples) tick effects.measure) seen_is
-          ∙ ap (λ (m : Option (Measure × Held)). place_by_measure o (with_sample e.seen m samples) tick m) measure
+          ∙ ap (λ (x : Option Seen). place_by_measure o (with_sample x measure samples) tick measure) seen_is
+          ∙ ap (λ (m : Option (Measure × Held)). place_by_measure o (with_sample e.seen m samples) tick m) measure_is
           ∙ ap (λ n. place_by_measure o (with_sample e.seen e.effects.measure samples) n e.effects.measure) tick_is;
       steers = λ o samples rep.
-          subst (λ (m : Option (Measure × Held)). SteererRepresents j.steerer (servo_of o) (with_sample e.seen m samples)) measure
-          (subst (λ (x : Option Seen). SteererRepresents j.steerer (servo_of o) (with_sample x effects.measure samples)) seen_is
+          subst (λ (m : Option (Measure × Held)). SteererRepresents j.steerer (servo_of o) (with_sample e.seen m samples)) measure_is
+          (subst (λ (x : Option Seen). SteererRepresents j.steerer (servo_of o) (with_sample x measure samples)) seen_is
           (by.steers o samples rep));
       askable = by.askable;
       records = λ left queued.
-          subst (λ (b : Bool). QueueRepresents j.records.items (left_after b left))
+          subst (λ (b : Bool). QueueRepresents j.records (left_after b left))
           (by.record_is ∙ ap (λ (x : Input). is_record_of i.number x) (sym input_is)) (by.records left queued);
     }

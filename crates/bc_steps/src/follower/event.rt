@@ -12,6 +12,8 @@ ghost use Rattle.bc_steps.specs.FollowerJob.{IsInputAt};
 
 use crate::follower::actor::FollowerActor;
 use crate::follower::place::{input_at, place_told, turn_after, turns_served};
+use crate::hub_event::take_event;
+use crate::newest_entry::newest_told;
 use crate::ticks::{last_tick, tick_of};
 use bc_history::Input;
 use hub_core::{Hub, HubError};
@@ -38,11 +40,11 @@ impl FollowerActor {
         ensures same { OnErr result ((hub.new ≡ hub.old) × (self.new ≡ self.old)) }
     {
         let tick = tick_of(&input);
-        let effects = hub.event(input)?;
+        take_event(hub, input)?;
         hub.rules();
         self.history = Snapshot::of(hub.entries());
         self.turns = turns_served(self.turns, &self.place);
-        self.place = place_told(tick, &effects);
+        self.place = place_told(tick, newest_told(hub));
         Ok(())
     }
 

@@ -3,11 +3,12 @@ ghost use Rattle.std.specs.Option.{option_and_then};
 ghost use Rattle.ptp_base.specs.declared.limits.TheConstants.{ENTRIES_MAX};
 ghost use Rattle.ptp_base.specs.declared.time.TheConstants.{TICK_MAX};
 ghost use Rattle.model_clock.specs.Clock.{IsClock};
+ghost use Rattle.bc_history.specs.declared.entry.Told.{Told};
 ghost use Rattle.bc_history.specs.Run.FollowerPlace.{follower_job, place_by_lead};
 ghost use Rattle.bc_history.specs.Run.World.{seen_at};
 ghost use Rattle.bc_steps.specs.FollowerJob.{follower_input, follower_tick, turn_after, turns_served};
 
-use bc_history::{Effects, FollowerPlace, Input, Outcome, Seen};
+use bc_history::{FollowerPlace, Input, Outcome, Seen, Told};
 use ptp_profile::{Action, Lead, Reading};
 
 /// The tick of the turn behind so many turns, at an interval in ns of the scenario.
@@ -74,13 +75,12 @@ pub fn turns_served(turns: u32, place: &FollowerPlace) -> u32
     }
 }
 
-/// Where a follower goes after an event at a tick that had these effects: to the reading of the clock
-/// that it was told to copy, or to its next turn.
-pub fn place_told(tick: u64, effects: &Effects) -> FollowerPlace
-    ensures { result
-        ≡ place_by_lead tick (option_and_then (λ told. told.lead) effects.now.told) }
+/// Where a follower goes after an event at a tick that told it this: to the reading of the clock that
+/// it was told to copy, or to its next turn.
+pub fn place_told(tick: u64, told: Option<Told>) -> FollowerPlace
+    ensures { result ≡ place_by_lead tick (option_and_then (λ (t : Told). t.lead) told) }
 {
-    match effects.told {
+    match told {
         Some(told) => match told.lead {
             Some(lead) => FollowerPlace::ReadsTheirs { tick, lead },
             None => FollowerPlace::Turns,

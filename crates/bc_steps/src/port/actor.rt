@@ -4,7 +4,8 @@ ghost use Rattle.bc_history.specs.Run.World.{is_busy, is_inside};
 ghost use Rattle.bc_steps.specs.ActorView.{due_tick, IsJobDue, IsLevel, IsPlaceOf};
 
 use crate::port::queue::tick_at;
-use bc_history::{Entries, PortPlace, Record, Scenario};
+use crate::port::record_queue::RecordQueue;
+use bc_history::{Entries, PortPlace, Scenario};
 use hub_core::Hub;
 use pi_servo::Steerer;
 use std::alloc::Global;
@@ -22,8 +23,8 @@ pub struct PortActor {
     pub(crate) number: u16,
     // The end of the run, in ns of the scenario.
     pub(crate) duration: u64,
-    // The records that are still to come, the next one at the end.
-    pub(crate) records: Vec<Record>,
+    // The records that are still to come.
+    pub(crate) records: RecordQueue,
     pub(crate) steerer: Steerer,
     pub(crate) place: PortPlace,
 }

@@ -1,47 +1,15 @@
-ghost use Rattle.std.specs.Prelude.{◌≡◌, ℕ, ◌==◌, List, filter, IfOk};
+ghost use Rattle.std.specs.Prelude.{◌≡◌, ℕ, IfOk};
 ghost use Rattle.std.specs.Option.{option_map};
 ghost use Rattle.bc_history.specs.Phases.Inputs.{tick_of};
-ghost use Rattle.bc_history.specs.declared.scenario.Record.{Record};
 ghost use Rattle.bc_history.specs.Run.NextInputs.{input_of, record_or_timer};
 ghost use Rattle.bc_history.specs.Run.PortEntries.{is_record_of};
-ghost use Rattle.bc_steps.specs.RecordQueue.{input_at, is_first, last_of, left_after, tick_at, QueueRepresents};
+ghost use Rattle.bc_steps.specs.RecordQueue.{input_at, is_first, last_of, tick_at};
 
+use crate::port::record_queue::RecordQueue;
 use bc_history::{Happening, Input, PortPlace, Record};
 use ptp_base::NoMemory;
 use ptp_profile::Timer;
 use std::alloc::Global;
-
-/// A record again. The octets of a frame are copied.
-fn copy_of(alloc: Global, kept: &Record) -> Result<Record, NoMemory>
-    ensures { IfOk result (λ copy. copy ≡ kept.now) }
-{
-    Ok(Record {
-        port: kept.port,
-        tick: kept.tick,
-        what: match &kept.what {
-            Happening::Frame(octets) => Happening::Frame(octets.copy(alloc)?),
-            Happening::Down => Happening::Down,
-            Happening::Up => Happening::Up,
-        },
-    })
-}
-
-/// The records of a port, queued with the first one at the end.
-pub fn queue_of(alloc: Global, records: &[Record], port: u16) -> Result<Vec<Record>, NoMemory>
-    ensures { IfOk result (λ queue.
-        QueueRepresents queue.items (filter (λ (r : Record). r.port == port) records.now)) }
-{
-    let mut queue = Vec::new(alloc);
-    let mut left = records.len();
-    while left > 0 {
-        left -= 1;
-        let next = &records[left];
-        if next.port == port {
-            queue.push(copy_of(alloc, next)?)?;
-        }
-    }
-    Ok(queue)
-}
 
 /// Whether a record of a tick comes before the timer that is set, if one is: the record is first at
 /// one tick.
@@ -55,11 +23,11 @@ fn is_first(tick: u64, timer: Option<(u64, Timer)>) -> bool
 }
 
 /// The tick of the record or timer that a port takes next, if it has one.
-fn next_tick(queue: &[Record], timer: Option<(u64, Timer)>) -> Option<u64>
+fn next_tick(queue: &RecordQueue, timer: Option<(u64, Timer)>) -> Option<u64>
     ensures { (p : ℕ) → result ≡ option_map tick_of (record_or_timer p (last_of queue.now) timer) }
 {
-    match queue.last() {
-        Some(record) if is_first(record.tick, timer) => Some(record.tick),
+    match queue.tick() {
+        Some(tick) if is_first(tick, timer) => Some(tick),
         _ => match timer {
             Some((tick, _)) => Some(tick),
             None => None,
@@ -68,22 +36,12 @@ fn next_tick(queue: &[Record], timer: Option<(u64, Timer)>) -> Option<u64>
 }
 
 /// The tick of the next step of a port at a place, if it has one.
-pub fn tick_at(place: PortPlace, queue: &[Record], timer: Option<(u64, Timer)>) -> Option<u64>
+pub fn tick_at(place: PortPlace, queue: &RecordQueue, timer: Option<(u64, Timer)>) -> Option<u64>
     ensures { (p : ℕ) → result ≡ tick_at p place (last_of queue.now) timer }
 {
     match place {
         PortPlace::Waits => next_tick(queue, timer),
         PortPlace::Exchanges { tick, .. } | PortPlace::Reports { tick, .. } => Some(tick),
-    }
-}
-
-/// Takes the next record from a queue, where it is taken.
-pub fn take_next(queue: &mut Vec<Record>, is_taken: bool)
-    ensures { (left : List Record) → QueueRepresents queue.old.items left →
-        QueueRepresents queue.new.items (left_after is_taken left) }
-{
-    if is_taken {
-        queue.pop();
     }
 }
 
@@ -107,7 +65,7 @@ pub fn input_of(alloc: Global, port: u16, brought: &Record) -> Result<Input, NoM
 fn next_input(
     alloc: Global,
     port: u16,
-    queue: &[Record],
+    queue: &RecordQueue,
     timer: Option<(u64, Timer)>,
 ) -> Result<Option<Input>, NoMemory>
     ensures { IfOk result (λ input. input ≡ record_or_timer port (last_of queue.now) timer) }
@@ -126,7 +84,7 @@ pub fn input_at(
     alloc: Global,
     port: u16,
     place: PortPlace,
-    queue: &[Record],
+    queue: &RecordQueue,
     timer: Option<(u64, Timer)>,
 ) -> Result<Option<Input>, NoMemory>
     ensures { IfOk result (λ input. input ≡ input_at port place (last_of queue.now) timer) }

@@ -4,7 +4,7 @@ ghost use Rattle.bc_history.specs.Run.Actors.{actors_of};
 ghost use Rattle.bc_steps.specs.ActorView.{place_at_opening};
 
 use crate::port::actor::PortActor;
-use crate::port::queue::queue_of;
+use crate::port::record_queue::queue_of;
 use crate::servo_conf::servo_of;
 use bc_history::{Entries, PortPlace, Scenario};
 use pi_servo::Steerer;

@@ -6,28 +6,21 @@ ghost use Rattle.bc_history.specs.Run.NextInputs.{IsDue};
 ghost use Rattle.bc_history.specs.Run.PortPlace.{place_by_entries};
 ghost use Rattle.bc_history.specs.Phases.Step.{state_of};
 ghost use Rattle.bc_history.specs.Run.World.{World, Event, Free, Of_port, free_steps, is_inside, step_of};
-ghost use Rattle.hub_core.specs.HubView.{IsInWindow, entry_by, newest_seen, reading_at, with_entry};
+ghost use Rattle.hub_core.specs.HubView.{IsInWindow, entry_by, reading_at, with_entry};
 ghost use Rattle.bc_steps.specs.ActorView.{is_ready, world_with, AddsOwn, IsIn, IsLevel, IsSameActor, IsSameHistory};
 
 use crate::exchange::exchange;
+use crate::hub_event::take_event;
+use crate::newest_entry::{newest_measure, newest_seen};
 use crate::port::actor::PortActor;
 use crate::port::job::take_measure;
-use crate::port::queue::{input_at, is_record_of, take_next};
+use crate::port::queue::{input_at, is_record_of};
+use crate::port::record_queue::take_next;
 use crate::ticks::{last_tick, tick_of};
-use bc_history::{Input, PortPlace, Seen};
+use bc_history::{Input, PortPlace};
 use hub_core::{Hub, HubError};
 use ptp_base::{ENTRIES_MAX, NoMemory};
 use std::snapshot::Snapshot;
-
-/// The reading of the hub's newest entry, if it has one.
-fn newest_seen(hub: &Hub) -> Option<Seen>
-    ensures { result ≡ newest_seen hub.now.entries }
-{
-    match hub.entries().items().last() {
-        Some(entry) => entry.seen,
-        None => None,
-    }
-}
 
 impl PortActor {
     /// The hub takes an input of its own, which is due, and where that gives a measure, its servo
@@ -50,12 +43,13 @@ impl PortActor {
     {
         let tick = tick_of(&input);
         let is_record = is_record_of(self.number, &input);
-        let effects = hub.event(input)?;
+        take_event(hub, input)?;
         take_next(&mut self.records, is_record);
         hub.rules();
         self.history = Snapshot::of(hub.entries());
         let seen = newest_seen(hub);
-        self.place = take_measure(&mut self.steerer, tick, &seen, &effects.measure);
+        let measure = newest_measure(hub);
+        self.place = take_measure(&mut self.steerer, tick, &seen, &measure);
         Ok(())
     }
 

@@ -27,23 +27,23 @@ invariant_of-self c =
     let i : Inside = c.self.inside in
     let j : Inside = record i { history = c.of.result; turns = c.turns_served-self-inside.result; place = c.place_told-self-inside.result } in
     let hub = c.args.hub.now in
-    let new = c.event.new.self in
+    let new = c.take_event.new.hub in
     let e = entry_of hub new c.args.input in
     let level = subst (λ (a : ActorState). IsLevel hub a) (sym c.self.view_is) c.requires.level in
-    let made : HasMadeFollower i j hub new c.args.input c.in_ok-effects.effects c.tick_of-tick.result = record {
+    let made : HasMadeFollower i j hub new c.args.input c.newest_told.result c.tick_of-tick.result = record {
       level = level;
       alike = refl;
-      entry = c.in_ok-effects.ensures.entry;
+      entry = c.in_ok-take_event.ensures.entry;
       history = c.rules.ensures.history;
       kept = c.of.ensures ∙ c.entries.ensures;
       own = subst (λ (w : Who). is_same_actor w (actor_of c.args.input) ≡ true) (sym (ap (λ (a : ActorState). a.who) c.self.view_is)) c.requires.own;
       next = subst (λ (p : Place). IsInputAt p c.args.input) (sym (ap (λ (a : ActorState). a.place) c.self.view_is)) c.requires.next;
-      effects_are = c.in_ok-effects.ensures.effects;
+      told_is = c.newest_told.ensures;
       tick_is = c.tick_of-tick.ensures;
       place = c.place_told-self-inside.ensures;
       turns = c.turns_served-self-inside.ensures;
     } in
-    let served = made-follower i j hub new c.args.input c.in_ok-effects.effects c.tick_of-tick.result made in
+    let served = made-follower i j hub new c.args.input c.newest_told.result c.tick_of-tick.result made in
     follower-served i j hub.entries e c.self.invariant level.entries served
 
 pub returns-clause-place : goal.returns-clause-place
@@ -51,25 +51,25 @@ returns-clause-place c = λ n is.
     let i : Inside = c.self.inside in
     let j : Inside = record i { history = c.of.result; turns = c.turns_served-self-inside.result; place = c.place_told-self-inside.result } in
     let hub = c.args.hub.now in
-    let new = c.event.new.self in
+    let new = c.take_event.new.hub in
     let e = entry_of hub new c.args.input in
     let level = subst (λ (a : ActorState). IsLevel hub a) (sym c.self.view_is) c.requires.level in
-    let made : HasMadeFollower i j hub new c.args.input c.in_ok-effects.effects c.tick_of-tick.result = record {
+    let made : HasMadeFollower i j hub new c.args.input c.newest_told.result c.tick_of-tick.result = record {
       level = level;
       alike = refl;
-      entry = c.in_ok-effects.ensures.entry;
+      entry = c.in_ok-take_event.ensures.entry;
       history = c.rules.ensures.history;
       kept = c.of.ensures ∙ c.entries.ensures;
       own = subst (λ (w : Who). is_same_actor w (actor_of c.args.input) ≡ true) (sym (ap (λ (a : ActorState). a.who) c.self.view_is)) c.requires.own;
       next = subst (λ (p : Place). IsInputAt p c.args.input) (sym (ap (λ (a : ActorState). a.place) c.self.view_is)) c.requires.next;
-      effects_are = c.in_ok-effects.ensures.effects;
+      told_is = c.newest_told.ensures;
       tick_is = c.tick_of-tick.ensures;
       place = c.place_told-self-inside.ensures;
       turns = c.turns_served-self-inside.ensures;
     } in
-    let served = made-follower i j hub new c.args.input c.in_ok-effects.effects c.tick_of-tick.result made in
+    let served = made-follower i j hub new c.args.input c.newest_told.result c.tick_of-tick.result made in
     let who : Follower i.clock ≡ Follower n = ap (λ (a : ActorState). a.who) c.self.view_is ∙ is in
     let clock : i.clock ≡ n = cc in
     ap (λ (p : FollowerPlace). Of_follower p) (place-follower i j hub.entries e served
     ∙ (ap (λ k. follower_place_by_entries k (e ∷ hub.entries)) clock
-    ∙ ap (λ (h : HubState). follower_place_by_entries n h.entries) (sym c.in_ok-effects.ensures.entry)))
+    ∙ ap (λ (h : HubState). follower_place_by_entries n h.entries) (sym c.in_ok-take_event.ensures.entry)))

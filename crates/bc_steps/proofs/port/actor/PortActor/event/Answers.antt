@@ -14,16 +14,16 @@ use Rattle.bc_steps.proofs.port.actor.PortActor.event.Goals as goal
 due : (c : goal.After-serve-arg-2-1)
     → IsDueEvent c.args.hub.now.scenario c.self.inside c.args.hub.now.entries c.in-Some-2.input c.in-Some.tick
 due c =
-    event-due c.self.inside c.args.self.now c.args.hub.now c.deref.result.now c.due-timer.result c.in-Some-2.input c.in-Some.tick
-    c.self.invariant c.self.view_is c.requires.level c.rules.ensures.history.continues c.deref.ensures.value c.due-timer.ensures
+    event-due c.self.inside c.args.self.now c.args.hub.now c.self.inside.records c.due-timer.result c.in-Some-2.input c.in-Some.tick
+    c.self.invariant c.self.view_is c.requires.level c.rules.ensures.history.continues refl c.due-timer.ensures
     (sym c.in_ok-input.ensures ∙ c.in-Some-2.is) (sym c.due.ensures.tick ∙ c.in-Some.is)
 
 -- the same, once it was served
 served : (c : goal.In_ok-serve)
     → IsDueEvent c.args.hub.now.scenario c.self.inside c.args.hub.now.entries c.in-Some-2.input c.in-Some.tick
 served c =
-    event-due c.self.inside c.args.self.now c.args.hub.now c.deref.result.now c.due-timer.result c.in-Some-2.input c.in-Some.tick
-    c.self.invariant c.self.view_is c.requires.level c.rules.ensures.history.continues c.deref.ensures.value c.due-timer.ensures
+    event-due c.self.inside c.args.self.now c.args.hub.now c.self.inside.records c.due-timer.result c.in-Some-2.input c.in-Some.tick
+    c.self.invariant c.self.view_is c.requires.level c.rules.ensures.history.continues refl c.due-timer.ensures
     (sym c.in_ok-input.ensures ∙ c.in-Some-2.is) (sym c.due.ensures.tick ∙ c.in-Some.is)
 
 pub serve-requires-clause-due : goal.serve-requires-clause-due
@@ -43,8 +43,8 @@ returns-then-len-clause-events c =
 
 pub returns-in_default-2-clause-waits : goal.returns-in_default-2-clause-waits
 returns-in_default-2-clause-waits c =
-    absurd (some-input c.self.inside c.args.self.now c.args.hub.now c.deref.result.now c.due-timer.result c.in-Some.tick
-    c.self.invariant c.self.view_is c.requires.level c.requires.inside c.deref.ensures.value c.due-timer.ensures
+    absurd (some-input c.self.inside c.args.self.now c.args.hub.now c.self.inside.records c.due-timer.result c.in-Some.tick
+    c.self.invariant c.self.view_is c.requires.level c.requires.inside refl c.due-timer.ensures
     (sym c.due.ensures.tick ∙ c.in-Some.is) (sym c.in_ok-input.ensures ∙ c.in_default-2.is))
 
 pub returns-clause-step : goal.returns-clause-step

@@ -16,5 +16,5 @@ invariant_of-result c =
     actor-opened _ c.args.s.now c.of.ensures c.rules.ensures c.requires.there (c.of-2.ensures ∙ c.new-none.ensures) refl
     (ap (λ (x : Scenario). x.options.duration) c.s.view_is)
     (subst (λ (o : ServoConf). SteererRepresents c.new.result o []) servo c.new.ensures.begun)
-    (subst (λ (rs : List Record). QueueRepresents c.in_ok-queue_of.field-0.items (filter (λ (r : Record). r.port == c.args.number) rs)) records
+    (subst (λ (rs : List Record). QueueRepresents c.in_ok-queue_of.field-0 (filter (λ (r : Record). r.port == c.args.number) rs)) records
     c.in_ok-queue_of.ensures)

@@ -13,7 +13,7 @@ use Rattle.bc_steps.proofs.lemmas.ServedPortLemmas.{HasMade, actor-served, entry
 use Rattle.bc_steps.proofs.port.actor.PortActor.serve.Goals as goal
 
 -- the actor after the event
-abbrev after : goal.After-drop-effects-4 → Inside
+abbrev after : goal.After-self-1 → Inside
 after c = record {
   alloc = c.self.inside.alloc;
   scenario = c.self.inside.scenario;
@@ -25,22 +25,22 @@ after c = record {
   place = c.take_measure-self-inside.result;
 }
 
-level : (c : goal.After-drop-effects-4) → IsLevel c.args.hub.now (port_actor_view c.self.inside)
+level : (c : goal.After-self-1) → IsLevel c.args.hub.now (port_actor_view c.self.inside)
 level c = subst (λ (a : ActorState). IsLevel c.args.hub.now a) (sym c.self.view_is) c.requires.level
 
-made : (c : goal.After-drop-effects-4)
-    → HasMade c.self.inside (after c) c.args.hub.now c.event.new.self c.args.input c.newest_seen-seen.result c.in_ok-effects.effects c.tick_of-tick.result
+made : (c : goal.After-self-1)
+    → HasMade c.self.inside (after c) c.args.hub.now c.take_event.new.hub c.args.input c.newest_seen-seen.result c.newest_measure-measure.result c.tick_of-tick.result
     c.is_record_of-is_record.result
 made c = record {
   level = (level c).scenario;
   scenario = refl;
   number = refl;
   duration = refl;
-  entry = c.in_ok-effects.ensures.entry;
+  entry = c.in_ok-take_event.ensures.entry;
   history = c.rules.ensures.history;
   kept = c.of.ensures ∙ c.entries.ensures;
   own = subst (λ (w : Who). is_same_actor w (actor_of c.args.input) ≡ true) (sym (ap (λ (a : ActorState). a.who) c.self.view_is)) c.requires.own;
-  effects_are = c.in_ok-effects.ensures.effects;
+  measure_is = c.newest_measure-measure.ensures;
   tick_is = c.tick_of-tick.ensures;
   seen_is = c.newest_seen-seen.ensures;
   record_is = c.is_record_of-is_record.ensures;
@@ -52,19 +52,19 @@ made c = record {
 
 pub invariant_of-self : goal.invariant_of-self
 invariant_of-self c =
-    actor-served c.self.inside (after c) c.args.hub.now.entries (entry_of c.args.hub.now c.event.new.self c.args.input) c.self.invariant
-    (level c).entries (served c.self.inside (after c) c.args.hub.now c.event.new.self c.args.input c.newest_seen-seen.result c.in_ok-effects.effects c.tick_of-tick.result
+    actor-served c.self.inside (after c) c.args.hub.now.entries (entry_of c.args.hub.now c.take_event.new.hub c.args.input) c.self.invariant
+    (level c).entries (served c.self.inside (after c) c.args.hub.now c.take_event.new.hub c.args.input c.newest_seen-seen.result c.newest_measure-measure.result c.tick_of-tick.result
     c.is_record_of-is_record.result (made c))
 
 pub returns-clause-place : goal.returns-clause-place
 returns-clause-place c = λ p is.
-    let e = entry_of c.args.hub.now c.event.new.self c.args.input in
+    let e = entry_of c.args.hub.now c.take_event.new.hub c.args.input in
     let i : Inside = c.self.inside in
     let who : Port i.number ≡ Port p = ap (λ (a : ActorState). a.who) c.self.view_is ∙ is in
     let number : i.number ≡ p = cc in
     let placed = place-served i (after c) c.args.hub.now.entries e c.self.invariant (level c).entries
-    (served i (after c) c.args.hub.now c.event.new.self c.args.input c.newest_seen-seen.result c.in_ok-effects.effects c.tick_of-tick.result
+    (served i (after c) c.args.hub.now c.take_event.new.hub c.args.input c.newest_seen-seen.result c.newest_measure-measure.result c.tick_of-tick.result
     c.is_record_of-is_record.result (made c)) in
     ap (λ place. Of_port place) (placed ∙ ap (λ n. place_by_entries i.scenario.value.options n (e ∷ c.args.hub.now.entries)) number
     ∙ ap (λ (s : Scenario). place_by_entries s.options p (e ∷ c.args.hub.now.entries)) (level c).scenario
-    ∙ ap (λ (h : HubState). place_by_entries c.args.hub.now.scenario.options p h.entries) (sym c.in_ok-effects.ensures.entry))
+    ∙ ap (λ (h : HubState). place_by_entries c.args.hub.now.scenario.options p h.entries) (sym c.in_ok-take_event.ensures.entry))

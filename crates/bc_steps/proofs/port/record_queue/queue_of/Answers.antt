@@ -4,7 +4,7 @@ use Rattle.std.proofs.lemmas.Option.{slice_get_read}
 use Rattle.bc_history.specs.declared.scenario.Record.{Record}
 use Rattle.bc_steps.specs.RecordQueue.{QueueRepresents}
 use Rattle.bc_steps.proofs.lemmas.QueueLemmas.{queued-more}
-use Rattle.bc_steps.proofs.port.queue.queue_of.Goals as goal
+use Rattle.bc_steps.proofs.port.record_queue.queue_of.Goals as goal
 
 pub loop-left-preserved-in_ok-push : goal.loop-left-preserved-in_ok-push
 loop-left-preserved-in_ok-push c =

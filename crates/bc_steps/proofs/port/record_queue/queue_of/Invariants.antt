@@ -1,7 +1,7 @@
 use Rattle.std.specs.Prelude.{◌≤◌, ◌==◌, drop, filter, length}
 use Rattle.bc_history.specs.declared.scenario.Record.{Record}
 use Rattle.bc_steps.specs.RecordQueue.{QueueRepresents}
-use Rattle.bc_steps.proofs.port.queue.queue_of.Given as goal
+use Rattle.bc_steps.proofs.port.record_queue.queue_of.Given as goal
 
 -- the records from `left` on are queued
 abbrev pub invariant-loop-left : goal.invariant-loop-left
