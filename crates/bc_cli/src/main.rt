@@ -1,5 +1,6 @@
 //! Reads a scenario from standard input and writes the transcript of its run to standard output: at
-//! the word `replay` of the run by turns, at the word `run` of a run by threads.
+//! the word `replay` of the run by turns, at the word `run` of a run by threads. At the word `gen` and
+//! a number it reads nothing, and writes what the run of the scenario comes to that the number makes.
 #![tactic(auto)]
 
 use bc_actors::NoGate;
@@ -26,7 +27,7 @@ fn end_without_words(error: &io::Error) -> End {
     }
 }
 
-/// Says on standard error why there is no transcript.
+/// Says on standard error why what was asked for was not written.
 fn report(rt: &HostRuntime, end: &End) -> io::Result<()> {
     match end {
         End::Done => Ok(()),

@@ -62,7 +62,17 @@ fn a_first_read_fails(rt: HostRuntime) -> Result<(), Fail> {
 
 #[test]
 fn other_words_are_none(rt: HostRuntime) -> Result<(), Fail> {
-    for line in ["", "run", "gen 3", "--help", "Replay", "replay replay"] {
+    for line in [
+        "",
+        "run",
+        "gen",
+        "gen -1",
+        "gen 3 3",
+        "gen 4294967296",
+        "--help",
+        "Replay",
+        "replay replay",
+    ] {
         let other = words(rt.alloc(), line)?;
         let mut from = source(rt.alloc(), SIX_SECONDS)?;
         let mut to = MemSink::new(rt.alloc());

@@ -1,2 +1,5 @@
 pub mod CallLemmas
+pub mod ChangeCountLemmas
 pub mod EndCompletenessLemmas
+pub mod GenerationLemmas
+pub mod ScheduleLemmas

@@ -2,21 +2,19 @@
 use Rattle.std.specs.Prelude.{◌≡◌, ℕ, List, Some, None}
 use Rattle.text_io.specs.declared.reason.Reason.{Reason}
 use Rattle.bc_history.specs.Scenario.LineFaults.{IsFirstFault}
-use Rattle.bc_top.specs.ReadToEnd.{IsUnread, IsReadPart, IsReadWhole, IsReadTooFar, IsReadFault}
+use Rattle.bc_top.specs.ReadToEnd.{IsUnread, IsReadWhole, IsReadTooFar, IsReadFault}
 use Rattle.bc_top.specs.WriteAll.{IsUnwritten, IsWritten, IsWriteFault}
-use Rattle.bc_top.specs.Call.{Call, IsTranscriptOf, IsOutOfTurn, IsOverfull}
+use Rattle.bc_top.specs.Call.{Call, IsOfText, IsOutOfTurn, IsOwed, IsReadBy, IsTooLarge}
 use Rattle.bc_top.specs.declared.words.Command.{Command}
 use Rattle.bc_top.specs.declared.outcome.End.{End}
 use Rattle.bc_top.specs.declared.outcome.End.TheVariants.{Done, Usage, Refused, ReadFault, WriteFault, Events, NoMemory, NotDue, TooLong}
 
--- the source was read to its end, and the transcript of what was read was written
+-- what the command owes was written
 pub record IsDone (c : Call) : Type 0 where
   pub command : Command
   pub asked : c.command ≡ Some command
-  pub text : List ℕ
-  pub read : IsReadWhole c.reads text
   pub out : List ℕ
-  pub transcript : IsTranscriptOf command text out
+  pub owed : IsOwed command c.reads out
   pub written : IsWritten c.writes out
 
 -- the words name no command that is taken, and nothing was read or written
@@ -29,6 +27,7 @@ pub record IsUsage (c : Call) : Type 0 where
 pub record IsRefused (c : Call) (line : ℕ) (reason : Reason) : Type 0 where
   pub command : Command
   pub asked : c.command ≡ Some command
+  pub of_text : IsOfText command
   pub text : List ℕ
   pub read : IsReadWhole c.reads text
   pub fault : IsFirstFault text line reason
@@ -38,26 +37,23 @@ pub record IsRefused (c : Call) (line : ℕ) (reason : Reason) : Type 0 where
 pub record IsFaultOfReading (c : Call) : Type 0 where
   pub command : Command
   pub asked : c.command ≡ Some command
+  pub of_text : IsOfText command
   pub failed : IsReadFault c.reads
   pub unwritten : IsUnwritten c.writes
 
--- a write failed, after a part of the transcript
+-- a write failed, after a part of what the command owes
 pub record IsFaultOfWriting (c : Call) : Type 0 where
   pub command : Command
   pub asked : c.command ≡ Some command
-  pub text : List ℕ
-  pub read : IsReadWhole c.reads text
   pub out : List ℕ
-  pub transcript : IsTranscriptOf command text out
+  pub owed : IsOwed command c.reads out
   pub failed : IsWriteFault c.writes out
 
--- the source was read to its end, and the scenario of what was read ends at one event too many
+-- the scenario that the command is about ends at one event too many
 pub record IsTooMany (c : Call) : Type 0 where
   pub command : Command
   pub asked : c.command ≡ Some command
-  pub text : List ℕ
-  pub read : IsReadWhole c.reads text
-  pub overfull : IsOverfull command text
+  pub overfull : IsTooLarge command c.reads
   pub unwritten : IsUnwritten c.writes
 
 -- the source was read to its end, and the scenario of what was read ends at a turn that has no step
@@ -73,6 +69,7 @@ pub record IsNotDue (c : Call) (turn : ℕ) : Type 0 where
 pub record IsTooLong (c : Call) : Type 0 where
   pub command : Command
   pub asked : c.command ≡ Some command
+  pub of_text : IsOfText command
   pub far : IsReadTooFar c.reads
   pub unwritten : IsUnwritten c.writes
 
@@ -80,7 +77,7 @@ pub record IsTooLong (c : Call) : Type 0 where
 pub record IsNoMemory (c : Call) : Type 0 where
   pub command : Command
   pub asked : c.command ≡ Some command
-  pub read : IsReadPart c.reads
+  pub read : IsReadBy command c.reads
   pub unwritten : IsUnwritten c.writes
 
 -- an end and its cause

@@ -1,4 +1,4 @@
--- The status of each end, and the end of a call that has no transcript.
+-- The status of each end, and the end of a call that has nothing to write.
 use Rattle.std.specs.Prelude.{ℕ}
 use Rattle.bc_top.specs.declared.outcome.End.{End}
 use Rattle.bc_top.specs.declared.outcome.End.TheVariants.{Done, Usage, Refused, ReadFault, WriteFault, Events, NoMemory, NotDue, TooLong}

@@ -3,6 +3,7 @@ pub mod CommandRuns
 pub mod ExitStatus
 pub mod ReadToEnd
 pub mod WriteAll
+pub mod Summary
 pub mod Call
 pub mod EndCauses
 pub mod EndCompleteness

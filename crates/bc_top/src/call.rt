@@ -1,4 +1,5 @@
-//! What the commands share: the text is read and stands for a scenario, and a run has a transcript.
+//! What the commands share: the text is read and stands for a scenario, a run has a transcript, and
+//! what is owed is written.
 ghost use Rattle.std.specs.Prelude.{◌≡◌, ℕ, ◌≤◌, List, length, Some, IfOk, IfErr};
 ghost use Rattle.bc_history.specs.Run.Transcript.{text_of};
 ghost use Rattle.bc_history.specs.Scenario.LineFaults.{Stands};
@@ -7,7 +8,7 @@ ghost use Rattle.bc_top.specs.declared.words.Command.{Command};
 ghost use Rattle.bc_top.specs.declared.outcome.NoTranscript.TheVariants.{NoMemory};
 ghost use Rattle.bc_top.specs.ReadToEnd.{Reads, IsReadWhole, reads_of};
 ghost use Rattle.bc_top.specs.WriteAll.{Writes, IsUnwritten, writes_of};
-ghost use Rattle.bc_top.specs.Call.{IsTranscriptOf, IsWithout, call_of};
+ghost use Rattle.bc_top.specs.Call.{IsExcused, IsOfText, IsOwed, IsWithout, call_of};
 ghost use Rattle.bc_top.specs.EndCauses.{IsCaused};
 
 use crate::outcome::{End, NoTranscript};
@@ -25,8 +26,8 @@ pub fn text_in<S: Source>(alloc: Global, source: &mut S) -> Result<Vec<u8>, End>
     ensures whole { IfOk result (λ text. IsReadWhole
         (reads_of (S.left source.old) (S.left source.new)
         (S.faults source.old) (S.faults source.new)) text.items) }
-    ensures caused { IfErr result (λ end. (command : Command) (w : Writes) → IsUnwritten w →
-        IsCaused (call_of (Some command)
+    ensures caused { IfErr result (λ end. (command : Command) (w : Writes) → IsOfText command →
+        IsUnwritten w → IsCaused (call_of (Some command)
         (reads_of (S.left source.old) (S.left source.new)
         (S.faults source.old) (S.faults source.new)) w) end) }
 {
@@ -63,12 +64,12 @@ pub fn text_of(alloc: Global, run: &Run) -> Result<Octets, NoTranscript>
     }
 }
 
-/// The end of a call that has read a text: its transcript is written, or there is none. Where that
-/// is so of the text by a command, the end has its cause.
+/// The end of a call: what its command owes is written, or it owes nothing. Where that is so by a
+/// command and by what was read, the end has its cause.
 pub fn conclude<K: Sink>(made: &Result<Octets, NoTranscript>, sink: &mut K) -> End
-    ensures { (command : Command) (text : List ℕ) (r : Reads) → IsReadWhole r text →
-        IfOk made.now (λ out. IsTranscriptOf command text out) →
-        IfErr made.now (IsWithout command text) →
+    ensures { (command : Command) (r : Reads) →
+        IfOk made.now (λ out. IsOwed command r out) →
+        IfErr made.now (IsExcused command r) →
         IsCaused (call_of (Some command) r
         (writes_of (K.written sink.old) (K.written sink.new)
         (K.faults sink.old) (K.faults sink.new))) result }

@@ -3,9 +3,11 @@
 #![tactic(auto)]
 
 mod call;
+mod made;
 mod one_thread;
 mod outcome;
 mod read;
+mod summary;
 mod threads;
 mod words;
 mod write;

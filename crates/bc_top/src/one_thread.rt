@@ -9,6 +9,7 @@ ghost use Rattle.bc_top.specs.EndCauses.{IsCaused};
 ghost use Rattle.bc_top.specs.EndCompleteness.{IsComplete};
 
 use crate::call::{conclude, scenario_of, text_in, text_of};
+use crate::made::serve_gen;
 use crate::outcome::{End, NoTranscript};
 use crate::words::{Command, command_of};
 use bc_replay::{ReplayError, replay};
@@ -50,10 +51,11 @@ fn serve_replay<S: Source, K: Sink>(alloc: Global, source: &mut S, sink: &mut K)
     }
 }
 
-/// What the program does on one thread: at the one word `replay` it reads the source to its end,
+/// What the program does on one thread. At the one word `replay` it reads the source to its end,
 /// makes the run of the scenario that the text stands for and the whole text of that run, and then
-/// writes it. Nothing is written unless it ends with `Done` or `WriteFault`. All other words are
-/// `Usage`.
+/// writes it. At the word `gen` and a number it makes the run of the scenario that the number makes,
+/// and then writes what the run comes to, in one line; nothing is read. Nothing is written unless it
+/// ends with `Done` or `WriteFault`. All other words are `Usage`.
 pub fn offline<S: Source, K: Sink>(
     alloc: Global,
     words: &[String],
@@ -73,6 +75,7 @@ pub fn offline<S: Source, K: Sink>(
 {
     match command_of(words) {
         Some(Command::Replay) => serve_replay(alloc, source, sink),
+        Some(Command::Gen(n)) => serve_gen(alloc, n, sink),
         _ => End::Usage,
     }
 }

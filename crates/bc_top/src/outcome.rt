@@ -6,7 +6,8 @@ use text_io::Reason;
 /// How a call ended.
 #[derive(Clone, Copy, Debug, PartialEq, Eq)]
 pub enum End {
-    /// The source was read to its end and the whole transcript was written.
+    /// What the command owes was written: the whole transcript of what was read to the end of the
+    /// source, or at `gen` the summary.
     Done,
     /// The words are none that the program takes.
     Usage,
@@ -53,7 +54,7 @@ impl End {
     }
 }
 
-/// Why a text has no transcript.
+/// Why a text has no transcript, or a made scenario no summary.
 #[derive(Clone, Copy, Debug, PartialEq, Eq)]
 pub enum NoTranscript {
     /// The text is no scenario.
@@ -67,7 +68,7 @@ pub enum NoTranscript {
 }
 
 impl NoTranscript {
-    /// How a call ends that has no transcript.
+    /// How a call ends that has nothing to write.
     pub fn end(&self) -> End
         ensures { result ≡ end_without self.now }
     {

@@ -1,3 +1,4 @@
+use crate::words::{Command, command_of};
 use crate::{End, offline, top};
 use bc_actors::NoGate;
 use std::alloc::Global;
@@ -35,7 +36,30 @@ fn words(alloc: Global, line: &str) -> Result<Vec<String>, Fail> {
 }
 
 #[test]
-fn top_takes_two_words_and_offline_one(rt: HostRuntime) -> Result<(), Fail> {
+fn words_name_commands(rt: HostRuntime) -> Result<(), Fail> {
+    for (line, command) in [
+        ("replay", Some(Command::Replay)),
+        ("run", Some(Command::Run)),
+        ("gen 1", Some(Command::Gen(1))),
+        ("gen 01", Some(Command::Gen(1))),
+        ("gen 4294967295", Some(Command::Gen(4_294_967_295))),
+        ("gen 4294967296", None),
+        ("gen 0000000001", Some(Command::Gen(1))),
+        ("gen 00000000001", None),
+        ("gen", None),
+        ("gen -1", None),
+        ("gen 1 2", None),
+        ("gen 1x", None),
+        ("replay 1", None),
+    ] {
+        let words = words(rt.alloc(), line)?;
+        assert_eq!(rt; command_of(&words), command, "{line}");
+    }
+    Ok(())
+}
+
+#[test]
+fn top_takes_the_word_run_and_offline_does_not(rt: HostRuntime) -> Result<(), Fail> {
     let alloc = rt.alloc();
     let text = b"[port 1]\n[ports]\n";
     let refused = End::Refused {
@@ -49,6 +73,7 @@ fn top_takes_two_words_and_offline_one(rt: HostRuntime) -> Result<(), Fail> {
         ("Run", End::Usage, End::Usage),
         ("run run", End::Usage, End::Usage),
         ("replay run", End::Usage, End::Usage),
+        ("gen 4294967296", End::Usage, End::Usage),
     ] {
         let words = words(alloc, line)?;
         let mut to = MemSink::new(alloc);
