@@ -13,7 +13,7 @@ OTHERS = frozenset(["port1", "eth0", "eth1"])
 # Folders in which no document and no source stands.
 PASSED_OVER = frozenset([".git", ".cache", "out", "__pycache__", ".pytest_cache"])
 
-SOURCES = (".rt", ".antt", ".edit", ".py", ".js", ".css", ".html", ".txt", ".transcript", "")
+SOURCES = (".rt", ".antt", ".edit", ".py", ".js", ".css", ".html", ".txt", ".transcript", ".summary", "")
 
 # Words that stand for others: NUMBER, after_X, XYields.
 STANDS_FOR_OTHERS = re.compile(r"^(?:[A-Z]+|X[A-Z]\w*|\w*_X|IsX|[0-9a-f]{8,})$")
@@ -217,7 +217,7 @@ def is_path(word: str) -> bool:
     """The word is the path of a file or a folder of the repository."""
     if not PATH.match(word) or word.startswith(".cache"):
         return False
-    return "/" in word or re.search(r"\w\.(?:md|rt|antt|txt|transcript)$", word) is not None
+    return "/" in word or re.search(r"\w\.(?:md|rt|antt|txt|transcript|summary)$", word) is not None
 
 
 def quote_faults(repository: Repository, path: Path) -> Iterator[tuple[int, str]]:
@@ -226,7 +226,7 @@ def quote_faults(repository: Repository, path: Path) -> Iterator[tuple[int, str]
     skips = True
     for number, line, fence in lines_of(path):
         word, _, name = (fence or "").partition(" ")
-        if word not in ("scenario", "transcript") or not name:
+        if word not in ("scenario", "transcript", "summary") or not name:
             former, skips = None, True
             continue
         file = repository.top / "examples" / (name + (".txt" if word == "scenario" else "." + word))
