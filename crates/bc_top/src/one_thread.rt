@@ -17,13 +17,15 @@ use ptp_base::Octets;
 use std::alloc::Global;
 use text_io::{Sink, Source};
 
-/// The transcript of the run by turns of the scenario that the text stands for.
-fn transcript_by_turns(alloc: Global, text: &[u8]) -> Result<Octets, NoTranscript>
-    requires short { length text.now ≤ TEXT_MAX }
-    ensures transcript { IfOk result (λ out. IsTranscriptOf Replay text.now out) }
-    ensures without { IfErr result (IsWithout Replay text.now) }
+/// The transcript of the run by turns of the scenario that the text stands for. The text goes
+/// before the run is made.
+fn transcript_by_turns(alloc: Global, text: Vec<u8>) -> Result<Octets, NoTranscript>
+    requires short { length text.items ≤ TEXT_MAX }
+    ensures transcript { IfOk result (λ out. IsTranscriptOf Replay text.items out) }
+    ensures without { IfErr result (IsWithout Replay text.items) }
 {
-    let s = scenario_of(alloc, text)?;
+    let s = scenario_of(alloc, &text)?;
+    drop(text);
     match replay(alloc, &s) {
         Ok(run) => text_of(alloc, &run),
         Err(ReplayError::NoMemory) => Err(NoTranscript::NoMemory),
@@ -46,7 +48,7 @@ fn serve_replay<S: Source, K: Sink>(alloc: Global, source: &mut S, sink: &mut K)
         (K.faults sink.old) (K.faults sink.new))) result }
 {
     match text_in(alloc, source) {
-        Ok(text) => conclude(&transcript_by_turns(alloc, &text), sink),
+        Ok(text) => conclude(&transcript_by_turns(alloc, text), sink),
         Err(end) => end,
     }
 }

@@ -17,7 +17,7 @@ pub enum ReadError {
 }
 
 /// How many octets one read asks for.
-const PIECE: usize = 4096;
+const PIECE: usize = 65_536;
 
 /// All that is left in the source. No octet behind the first one that is too many is read.
 pub fn read_to_end<S: Source>(alloc: Global, source: &mut S) -> Result<Vec<u8>, ReadError>

@@ -19,18 +19,20 @@ use std::sync::Wait;
 use std::thread::Threads;
 use text_io::{Sink, Source};
 
-/// The transcript of a run by threads of the scenario that the text stands for.
+/// The transcript of a run by threads of the scenario that the text stands for. The text goes
+/// before the run is made.
 fn transcript_by_threads<R: Threads + Wait + Sync, G: Gate + Sync>(
     rt: &R,
     alloc: Global,
-    text: &[u8],
+    text: Vec<u8>,
     gate: &G,
 ) -> Result<Octets, NoTranscript>
-    requires short { length text.now ≤ TEXT_MAX }
-    ensures transcript { IfOk result (λ out. IsTranscriptOf By_threads text.now out) }
-    ensures without { IfErr result (IsWithout By_threads text.now) }
+    requires short { length text.items ≤ TEXT_MAX }
+    ensures transcript { IfOk result (λ out. IsTranscriptOf By_threads text.items out) }
+    ensures without { IfErr result (IsWithout By_threads text.items) }
 {
-    let s = scenario_of(alloc, text)?;
+    let s = scenario_of(alloc, &text)?;
+    drop(text);
     match run_windows(rt, alloc, &s, gate) {
         Ok(run) => text_of(alloc, &run),
         Err(RunError::NoMemory) => Err(NoTranscript::NoMemory),
@@ -58,7 +60,7 @@ fn serve_run<R: Threads + Wait + Sync, S: Source, K: Sink, G: Gate + Sync>(
         (K.faults sink.old) (K.faults sink.new))) result }
 {
     match text_in(alloc, source) {
-        Ok(text) => conclude(&transcript_by_threads(rt, alloc, &text, gate), sink),
+        Ok(text) => conclude(&transcript_by_threads(rt, alloc, text, gate), sink),
         Err(end) => end,
     }
 }

@@ -36,6 +36,11 @@ pub fn write(alloc: Global, run: &Run, out: &mut Octets) -> Result<(), NoMemory>
     ensures err { OnErr result (out.new ≡ out.old) }
 {
     let text = text_of(alloc, run)?;
+    if out.items().is_empty() {
+        // Where nothing stands before it, the text is not copied.
+        *out = text;
+        return Ok(());
+    }
     out.append(text.items())
 }
 

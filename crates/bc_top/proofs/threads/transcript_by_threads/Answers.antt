@@ -25,4 +25,6 @@ pub returns-in_err-s-clause-without : goal.returns-in_err-s-clause-without
 returns-in_err-s-clause-without g c = let without = c.in_err-s.ensures.without By_threads in search rules
 
 pub returns-in-Ok-clause-transcript : goal.returns-in-Ok-clause-transcript
-returns-in-Ok-clause-transcript g c = transcript _ _ c.in-Ok.run' _ c.in_ok-s.ensures.stands c.in-Ok.ensures.legal c.in-Ok.ensures.windowed c.text_of.ensures.text
+returns-in-Ok-clause-transcript g c =
+    let value = c.deref.ensures.value in
+    transcript c.args.text.items _ c.in-Ok.run' _ (rw value at c.in_ok-s.ensures.stands) c.in-Ok.ensures.legal c.in-Ok.ensures.windowed c.text_of.ensures.text
