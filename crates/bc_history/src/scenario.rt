@@ -148,7 +148,7 @@ pub struct Turns {
 
 /// What a run is made from. Every scenario keeps the rules: its numbers are in the ranges of their
 /// options, it has 1 to `CLOCKS_MAX` clocks and 1 to `PORTS_MAX` ports, what it says is of clocks and
-/// ports that it has, and ticks don't fall.
+/// ports that it has, and the ticks of a port's records don't fall, nor those of the queries.
 #[derive(Debug, Drop)]
 pub struct Scenario {
     /// The options of the whole.
@@ -157,7 +157,7 @@ pub struct Scenario {
     pub clocks: ClockStates,
     /// 1 to `PORTS_MAX` ports.
     pub ports: PortConfs,
-    /// What happens to the ports, by rising tick.
+    /// What happens to the ports; of each port by rising tick.
     pub records: RecordList,
     /// What is asked, by rising tick.
     pub queries: AskedList,
