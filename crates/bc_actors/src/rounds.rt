@@ -102,8 +102,8 @@ fn round<N: Naming + Send + Sync, R: Threads + Wait + Sync, G: Gate + Sync>(
 
 /// All who act, before their first turns.
 fn no_turns(alloc: Global, count: u8) -> Result<Vec<TurnsTaken>, NoMemory>
-    ensures there { IfOk result (λ all. All (λ (t : TurnsTaken). (1 ≤ t.number) × (t.number ≤ count))
-        all.items) }
+    ensures there { IfOk result
+        (λ all. All (λ (t : TurnsTaken). (1 ≤ t.number) × (t.number ≤ count)) all.items) }
     ensures many { IfOk result (λ all. length all.items ≡ count) }
 {
     let mut all = Vec::new(alloc);

@@ -66,7 +66,8 @@ fn take_line(
     requires going { LoopRepresents s.now taken hub.old actors.old.items }
     requires there { IsTurnerOf (length s.now.clocks) (length s.now.ports) line.who }
     requires turns { HasTurns s.now taken line.who line.count }
-    ensures going { OnOk result (LoopRepresents s.now (taken + line.count) hub.new actors.new.items) }
+    ensures going { OnOk result
+        (LoopRepresents s.now (taken + line.count) hub.new actors.new.items) }
     ensures error { IfErr result (IsReplayError s.now) }
 {
     for k in 0..line.count {

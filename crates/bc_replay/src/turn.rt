@@ -66,7 +66,8 @@ pub fn turn_of(s: &Scenario, hub: &Hub, actors: &[Actor], who: Turner) -> Option
     requires level { AreLevel hub.now actors.now }
     requires acting { map (λ (a : ActorState). a.who) actors.now ≡ actors_of s.now }
     requires there { IsTurnerOf (length s.now.clocks) (length s.now.ports) who }
-    ensures { MatchOption result (HasNoTurn hub.now actors.now who) (IsTurnOf hub.now actors.now who) }
+    ensures { MatchOption result (HasNoTurn hub.now actors.now who)
+        (IsTurnOf hub.now actors.now who) }
 {
     s.rules();
     match who {

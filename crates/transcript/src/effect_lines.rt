@@ -196,7 +196,8 @@ fn with_told(mut f: Effects, told: Told) -> Option<Effects>
 
 /// With the error of a query.
 fn with_asked(mut f: Effects, error: AskError) -> Option<Effects>
-    ensures { result ≡ (if none_from_asked f then Some (record f { asked = Some error }) else None) }
+    ensures { result
+        ≡ (if none_from_asked f then Some (record f { asked = Some error }) else None) }
 {
     if !none_from_asked(&f) {
         return None;
